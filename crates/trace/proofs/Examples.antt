@@ -1,0 +1,79 @@
+-- Document 01's worked examples of trace numbers, as one list with one proof over it: each outcome is computed. Bytes are hexadecimal, as there.
+-- Assumes nothing.
+use mathlib.Core.Path.{_≡_, refl}
+use mathlib.Core.List.{List, [], _∷_, map}
+use Prim.Native.Nat.{ℕ, _+_}
+use Rattle.trace.specs.Answers.{Told, accepted, ended, placed, refused}
+use Rattle.trace.specs.Form.{form}
+use Rattle.trace.specs.Number.{reading, writing, written}
+
+-- a call on a slice, and its outcome: what it tells, and the slice at exit
+data Call : Type 0 where
+  reads : List ℕ → ℕ → Call
+  writes : List ℕ → ℕ → ℕ → Call
+
+record Outcome : Type 0 where
+  told : Told
+  left : List ℕ
+
+outcome : Call → Outcome
+outcome (reads s at) = record { told = reading s at; left = s }
+outcome (writes s at n) = record { told = writing s at n; left = written s at n }
+
+record Example : Type 0 where
+  call : Call
+  gives : Outcome
+
+read : List ℕ → ℕ → Told → Example
+read s at t = record { call = reads s at; gives = record { told = t; left = s } }
+
+write : List ℕ → ℕ → ℕ → Told → List ℕ → Example
+write s at n t l = record { call = writes s at n; gives = record { told = t; left = l } }
+
+-- the number of a data byte: "12 to 267 is a data byte, the number less 12"
+item : ℕ → ℕ
+item byte = byte + 12
+
+-- the largest number of 64 bits
+top : ℕ
+top = 0xFFFF_FFFF_FFFF_FFFF
+
+examples : List Example
+examples =
+    -- "So byte 73h is 7Fh, byte 74h is 80h 01h, byte FFh is 8Bh 02h."
+    write (0x55 ∷ 0x55 ∷ 0x55 ∷ []) 1 (item 0x73) (placed 2) (0x55 ∷ 0x7F ∷ 0x55 ∷ [])
+    ∷ write (0x55 ∷ 0x55 ∷ 0x55 ∷ []) 1 (item 0x74) (placed 3) (0x55 ∷ 0x80 ∷ 0x01 ∷ [])
+    ∷ write (0x55 ∷ 0x55 ∷ 0x55 ∷ []) 0 (item 0xFF) (placed 2) (0x8B ∷ 0x02 ∷ 0x55 ∷ [])
+    ∷ read (0x7F ∷ 0x80 ∷ 0x01 ∷ 0x8B ∷ 0x02 ∷ []) 0 (accepted (item 0x73) 1)
+    ∷ read (0x7F ∷ 0x80 ∷ 0x01 ∷ 0x8B ∷ 0x02 ∷ []) 1 (accepted (item 0x74) 3)
+    ∷ read (0x7F ∷ 0x80 ∷ 0x01 ∷ 0x8B ∷ 0x02 ∷ []) 3 (accepted (item 0xFF) 5)
+    -- "Reading at the slice's very end answers "end"."
+    ∷ read (0x7F ∷ 0x80 ∷ 0x01 ∷ 0x8B ∷ 0x02 ∷ []) 5 (ended 5)
+    ∷ read [] 0 (ended 0)
+    -- 15. "Numbers 267 and 268 (8C 02): read, 9."
+    ∷ read (0x8B ∷ 0x02 ∷ []) 0 (accepted 267 2)
+    ∷ read (0x8C ∷ 0x02 ∷ []) 0 (refused 9 0)
+    ∷ write (0x55 ∷ 0x55 ∷ []) 0 268 (refused 9 0) (0x55 ∷ 0x55 ∷ [])
+    -- 15. "Bytes 80 00 and a lone 80: 8."
+    ∷ read (0x80 ∷ 0x00 ∷ []) 0 (refused 8 0)
+    ∷ read (0x80 ∷ []) 0 (refused 8 0)
+    -- 8 "over two bytes", whatever its value: 8 comes before 9
+    ∷ read (0x80 ∷ 0x80 ∷ 0x01 ∷ []) 0 (refused 8 0)
+    ∷ read (0xFF ∷ 0xFF ∷ 0x7F ∷ []) 0 (refused 8 0)
+    -- 10 "place beyond the slice's end"; 9 comes before it in a write
+    ∷ read (0x7F ∷ []) 2 (refused 10 2)
+    ∷ write (0x55 ∷ []) 2 0 (refused 10 2) (0x55 ∷ [])
+    ∷ write (0x55 ∷ []) 2 268 (refused 9 2) (0x55 ∷ [])
+    -- "11 is given when fewer bytes remain than the number's form takes"
+    ∷ write (0x55 ∷ []) 0 128 (refused 11 0) (0x55 ∷ [])
+    ∷ write (0x55 ∷ []) 1 0 (refused 11 1) (0x55 ∷ [])
+    ∷ write [] 0 0 (refused 11 0) []
+    -- the largest place and value that there are
+    ∷ read (0x7F ∷ []) top (refused 10 top)
+    ∷ write (0x55 ∷ []) top 0 (refused 10 top) (0x55 ∷ [])
+    ∷ write (0x55 ∷ []) 0 top (refused 9 0) (0x55 ∷ [])
+    ∷ []
+
+all-hold : map (λ (e : Example). outcome (e .call)) examples ≡ map (λ (e : Example). e .gives) examples
+unfolding examples outcome read write item top reading writing written form
+all-hold = refl

@@ -1,0 +1,72 @@
+-- Each way out of `read_at` is the case of `reading` that its tests pick; inside the slice the answer goes by what `scan` finds.
+use borrow.Author.Needs.{needs}
+use borrow.Author.Tests.{le-ltb, lt-ltb}
+use mathlib.Core.Path.{_≡_, sym, ap, _∙_}
+use native.Mathlib.Omega.{arith}
+use Rattle.trace.specs.declared.number.Shape.{Shape}
+use Rattle.trace.specs.Answers.{readTold}
+use Rattle.trace.specs.Number.{reading}
+use Rattle.trace.proofs.Scanning.{sized, reading-beyond, reading-end, reading-inside}
+use Rattle.trace.proofs.number.read_at.Statement.{statement}
+use Rattle.trace.proofs.number.read_at.Tie as tie
+
+unread-requires : tie.Need-unread-requires
+unread-requires c κs = search needs
+
+returns : tie.Need-returns
+returns c = ap readTold (c .unread .ensures) ∙ sym (reading-beyond _ _ (c .before .if1 .taken))
+
+sub-left : tie.Need-sub-left
+sub-left c = search needs
+
+returns-2 : tie.Need-returns-2
+returns-2 c = let a = c .before .before .before .args in sym (reading-end (a .s .now) (a .at) (omega arith))
+
+scan-requires : tie.Need-scan-requires
+scan-requires c κs = search needs
+
+enum-told : tie.Need-enum-told
+enum-told c = search needs
+
+unread-requires-2 : tie.Need-unread-requires-2
+unread-requires-2 c κs = search needs
+
+enum-known-value : tie.Need-enum-known-value
+enum-known-value c = search needs
+
+unread-requires-3 : tie.Need-unread-requires-3
+unread-requires-3 c κs = search needs
+
+-- before the end: the answer by what `scan` found
+inside : (c : tie.After-scan) {found : Shape} → c .scan .result ≡ found → let a = c .before .before .before .before .args in sized (a .at) found ≡ reading (a .s .now) (a .at)
+inside c e =
+    let a = c .before .before .before .before .args in
+    ap (sized (a .at)) (sym e ∙ c .scan .ensures) ∙ sym (reading-inside (a .s .now) (a .at) (omega arith))
+
+returns-3 : tie.Need-returns-3
+returns-3 c = ap readTold (c .unread2 .ensures) ∙ inside (c .before .before .before) (c .before .enum-told .given .1)
+
+returns-4 : tie.Need-returns-4
+returns-4 c =
+    ap readTold (c .unread3 .ensures) ∙ simp (lt-ltb _ _ (c .before .if3 .taken)) at (inside (c .before .before .before .before .before) (c .before .before .before .value .given .1))
+
+returns-5 : tie.Need-returns-5
+returns-5 c =
+    simp (le-ltb _ _ (c .if3 .left)) at (inside (c .before .before .before .before) (c .before .before .value .given .1))
+
+pub read-at-spec : {M : Type 1} → statement M
+read-at-spec =
+    tie.close
+    (tie.spec
+    unread-requires
+    returns
+    sub-left
+    returns-2
+    scan-requires
+    enum-told
+    unread-requires-2
+    enum-known-value
+    unread-requires-3
+    returns-3
+    returns-4
+    returns-5)

@@ -1,0 +1,77 @@
+-- Each way out of `write_at` is the case of `writing` that its tests pick, and the slice goes by that answer: as it was at a refusal, and else with the form that `put` stored in its place.
+use borrow.Author.Needs.{needs}
+use borrow.Author.Tests.{le-ltb, lt-ltb}
+use lib.Seq.{sets-eq}
+use lib.ListN.{length}
+use mathlib.Core.Path.{_≡_, ap, _∙_}
+use native.Mathlib.Omega.{arith}
+use Prim.Native.Nat.{_+_, _-_, _≤_}
+use Rattle.trace.specs.Answers.{writtenTold, placed}
+use Rattle.trace.specs.Form.{form}
+use Rattle.trace.specs.Number.{writing}
+use Rattle.trace.proofs.Writing.{at-refusal, at-placing}
+use Rattle.trace.proofs.number.write_at.Statement.{statement}
+use Rattle.trace.proofs.number.write_at.Tie as tie
+
+unwritten-requires : tie.Need-unwritten-requires
+unwritten-requires c κs = search needs
+
+returns : tie.Need-returns
+unfolding writing
+returns c = at-refusal _ _ _ 8 (ap writtenTold (c .unwritten .ensures)) (simp (lt-ltb _ _ (c .before .if1 .taken)))
+
+unwritten-requires-2 : tie.Need-unwritten-requires-2
+unwritten-requires-2 c κs = search needs
+
+returns-2 : tie.Need-returns-2
+unfolding writing
+returns-2 c =
+    at-refusal _ _ _ 9 (ap writtenTold (c .unwritten2 .ensures)) (simp (le-ltb _ _ (c .before .before .if1 .left), lt-ltb _ _ (c .before .if2 .taken)))
+
+sub-room : tie.Need-sub-room
+sub-room c = search needs
+
+width-requires : tie.Need-width-requires
+width-requires c κs = search needs
+
+unwritten-requires-3 : tie.Need-unwritten-requires-3
+unwritten-requires-3 c κs = search needs
+
+returns-3 : tie.Need-returns-3
+unfolding writing
+returns-3 c =
+    let short = simp (c .before .before .width .ensures) at (c .before .if3 .taken) in
+    at-refusal _ _ _ 10 (ap writtenTold (c .unwritten3 .ensures)) (simp (le-ltb _ _ (c .before .before .before .before .if1 .left), le-ltb _ _ (c .before .before .before .if2 .left), lt-ltb _ _ short))
+
+put-requires : tie.Need-put-requires
+put-requires c κs = omega arith
+
+same-length : tie.Need-same-length
+same-length c = search needs
+
+returns-4 : tie.Need-returns-4
+unfolding writing
+returns-4 c =
+    let e = c .before .before .before .before in
+    let a = e .before .before .before .before .before .args in
+    let put = c .before .before .put in
+    let room : a .at + length (form (a .value)) ≤ length (a .s .now) = omega arith in
+    let fit : length (form (a .value)) ≤ length (a .s .now) - a .at = omega arith in
+    let told : placed (put .result) ≡ writing (a .s .now) (a .at) (a .value) = simp (put .ensures .0, le-ltb _ _ (e .before .before .before .if1 .left), le-ltb _ _ (e .before .before .if2 .left), le-ltb _ _ fit) in
+    (told, put .ensures .1 ∙ sets-eq (form (a .value)) (a .s .now) (a .at) room ∙ at-placing (a .s .now) (a .at) (a .value) (put .result) told)
+
+pub write-at-spec : {M : Type 1} → statement M
+write-at-spec =
+    tie.close
+    (tie.spec
+    unwritten-requires
+    returns
+    unwritten-requires-2
+    returns-2
+    sub-room
+    width-requires
+    unwritten-requires-3
+    returns-3
+    put-requires
+    same-length
+    returns-4)
