@@ -1,0 +1,42 @@
+use borrow.Author.Tests.{eq-eqb, le-leb, lt-leb, ne-eqb}
+use Rattle.chip.specs.Event.{checks}
+use borrow.Author.Needs.{needs}
+use Rattle.chip.proofs.event.checks.Statement.{statement}
+use Rattle.chip.proofs.event.checks.Tie as tie
+
+sound-requires : tie.Need-sound-requires
+sound-requires c κs = search needs
+
+returns : tie.Need-returns
+unfolding checks
+returns c = simp (← c .before .sound .ensures, c .if1 .taken)
+
+cast-figure-of : tie.Need-cast-figure-of
+cast-figure-of c = search needs
+
+figure-of-requires : tie.Need-figure-of-requires
+figure-of-requires c κs = search needs
+
+returns-2 : tie.Need-returns-2
+unfolding checks
+returns-2 c = simp (← c .before .before .figure-of .ensures, ← c .before .before .before .before .before .sound .ensures, ne-eqb _ _ (c .if2 .taken), c .before .before .before .before .if1 .left)
+
+returns-3 : tie.Need-returns-3
+unfolding checks
+returns-3 c = simp (← c .before .before .before .figure-of .ensures, ← c .before .before .before .before .before .before .sound .ensures, le-leb _ _ (c .if3 .taken), eq-eqb _ _ (c .before .if2 .left), c .before .before .before .before .before .if1 .left)
+
+returns-4 : tie.Need-returns-4
+unfolding checks
+returns-4 c = simp (← c .before .before .before .figure-of .ensures, ← c .before .before .before .before .before .before .sound .ensures, lt-leb _ _ (c .if3 .left), eq-eqb _ _ (c .before .if2 .left), c .before .before .before .before .before .if1 .left)
+
+pub checks-spec : {M : Type 1} → statement M
+checks-spec =
+    tie.close
+    (tie.spec
+    sound-requires
+    returns
+    cast-figure-of
+    figure-of-requires
+    returns-2
+    returns-3
+    returns-4)

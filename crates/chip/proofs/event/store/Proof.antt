@@ -1,0 +1,87 @@
+use Rattle.chip.specs.Event.{written}
+use mathlib.Core.Path.{sym}
+use lib.Seq.{set-out}
+use borrow.Author.Needs.{needs}
+use Rattle.chip.proofs.event.store.Statement.{statement}
+use Rattle.chip.proofs.event.store.Tie as tie
+
+enum-told : tie.Need-enum-told
+enum-told c = search needs
+
+enum-told-2 : tie.Need-enum-told-2
+enum-told-2 c = search needs
+
+enum-known-note : tie.Need-enum-known-note
+enum-known-note c = search needs
+
+slice-write-array : tie.Need-slice-write-array
+slice-write-array c = search needs
+
+enum-told-3 : tie.Need-enum-told-3
+enum-told-3 c = search needs
+
+enum-told-4 : tie.Need-enum-told-4
+enum-told-4 c = search needs
+
+enum-told-5 : tie.Need-enum-told-5
+enum-told-5 c = search needs
+
+enum-told-6 : tie.Need-enum-told-6
+enum-told-6 c = search needs
+
+returns : tie.Need-returns
+unfolding written
+returns c = simp (c .enum-told .given .1)
+
+returns-2 : tie.Need-returns-2
+unfolding written
+returns-2 c = simp (c .enum-told2 .given .1)
+
+same-length : tie.Need-same-length
+same-length c = search needs
+
+returns-3 : tie.Need-returns-3
+unfolding written
+returns-3 c = simp (c .before .before .note .given .1)
+
+returns-4 : tie.Need-returns-4
+unfolding written
+returns-4 c = simp (c .before .before .note .given .1) (sym (set-out _ _ _ (c .if1 .left)))
+
+returns-5 : tie.Need-returns-5
+unfolding written
+returns-5 c = simp (c .enum-told3 .given .1)
+
+returns-6 : tie.Need-returns-6
+unfolding written
+returns-6 c = simp (c .enum-told4 .given .1)
+
+returns-7 : tie.Need-returns-7
+unfolding written
+returns-7 c = simp (c .enum-told5 .given .1)
+
+returns-8 : tie.Need-returns-8
+unfolding written
+returns-8 c = simp (c .enum-told6 .given .1)
+
+pub store-spec : {M : Type 1} → statement M
+store-spec =
+    tie.close
+    (tie.spec
+    enum-told
+    enum-told-2
+    enum-known-note
+    slice-write-array
+    enum-told-3
+    enum-told-4
+    enum-told-5
+    enum-told-6
+    returns
+    returns-2
+    same-length
+    returns-3
+    returns-4
+    returns-5
+    returns-6
+    returns-7
+    returns-8)

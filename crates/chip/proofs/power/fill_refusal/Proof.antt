@@ -1,0 +1,27 @@
+use borrow.Author.Tests.{eq-eqb, ne-eqb}
+use Rattle.chip.specs.Power.{fillRefusal}
+use borrow.Author.Needs.{needs}
+use Rattle.chip.proofs.power.fill_refusal.Statement.{statement}
+use Rattle.chip.proofs.power.fill_refusal.Tie as tie
+
+is-part-requires : tie.Need-is-part-requires
+is-part-requires c κs = search needs
+
+returns : tie.Need-returns
+unfolding fillRefusal
+returns c = simp (← c .before .is-part .ensures, c .if1 .taken)
+
+figure-of-requires : tie.Need-figure-of-requires
+figure-of-requires c κs = search needs
+
+returns-2 : tie.Need-returns-2
+unfolding fillRefusal
+returns-2 c = simp (← c .before .before .figure-of .ensures, ← c .before .before .before .before .is-part .ensures, ne-eqb _ _ (c .if2 .taken), c .before .before .before .if1 .left)
+
+returns-3 : tie.Need-returns-3
+unfolding fillRefusal
+returns-3 c = simp (← c .before .before .figure-of .ensures, ← c .before .before .before .before .is-part .ensures, eq-eqb _ _ (c .if2 .left), c .before .before .before .if1 .left)
+
+pub fill-refusal-spec : {M : Type 1} → statement M
+fill-refusal-spec =
+    tie.close (tie.spec is-part-requires returns figure-of-requires returns-2 returns-3)

@@ -1,0 +1,61 @@
+-- After i turns the first i bytes are `byte` and the rest as they were; at the end none is left as it was.
+use mathlib.Core.Path.{_≡_, refl, ap, _∙_}
+use mathlib.Core.List.{List, _++_, append-nil}
+use Prim.Native.Nat.{ℕ, _-_, _≤_, zero-le}
+use native.Mathlib.Nat.{le-antisymm}
+use native.Mathlib.Omega.{arith}
+use lib.ListN.{length, set, drop, replicate, length-set}
+use lib.Seq.{drop-length}
+use borrow.Author.Fill.{fill-none, fill-more}
+use borrow.Author.Needs.{needs}
+use Rattle.chip.proofs.power.fill_with.Statement.{statement}
+use Rattle.chip.proofs.power.fill_with.Tie as tie
+
+abbrev Inv-loop : tie.InvT-loop
+Inv-loop array₀ byte i₀ array i =
+    (array ≡ replicate i byte ++ drop i array₀) × (i ≤ length array₀) × (length array ≡ length array₀)
+
+abbrev μ-loop : tie.MeasureT-loop
+μ-loop array₀ byte i₀ array i = length array₀ - i
+
+loop-holds : tie.Need-loop-holds Inv-loop μ-loop
+loop-holds c = (fill-none (c .args .array .now) (c .args .byte), zero-le, refl)
+
+slice-write-array : tie.Need-slice-write-array Inv-loop μ-loop
+slice-write-array c = search needs
+
+add-i : tie.Need-add-i Inv-loop μ-loop
+add-i c = search needs
+
+loop-less : tie.Need-loop-less Inv-loop μ-loop
+loop-less c = search needs
+
+loop-again : tie.Need-loop-again Inv-loop μ-loop
+loop-again c = (
+  ap (λ (l : List ℕ). set l (c .before .loop .i) (c .before .before .args .byte)) (c .before .loop .inv .0) ∙ fill-more (c .before .loop .i) (c .before .before .args .byte) (c .before .before .args .array .now) (omega arith),
+  omega arith,
+  length-set (c .before .loop .array) _ _ ∙ c .before .loop .inv .2,
+)
+
+same-length : tie.Need-same-length Inv-loop μ-loop
+same-length c = c .before .loop .inv .2
+
+returns : tie.Need-returns Inv-loop μ-loop
+returns c =
+    c .before .loop .inv .0
+    ∙ ap (λ (k : ℕ). replicate k (c .before .before .args .byte) ++ drop k (c .before .before .args .array .now)) (le-antisymm (c .before .loop .inv .1) (omega arith))
+    ∙ ap (λ (l : List ℕ). replicate (length (c .before .before .args .array .now)) (c .before .before .args .byte) ++ l) (drop-length (c .before .before .args .array .now)) ∙ append-nil _
+
+pub fill-with-spec : {M : Type 1} → statement M
+fill-with-spec =
+    tie.close
+    (tie.spec
+    Inv-loop
+    μ-loop
+    loop-holds
+    slice-write-array
+    add-i
+    loop-less
+    loop-again
+    same-length
+    returns)

@@ -1,0 +1,46 @@
+use mathlib.Core.Path.{sym, _∙_}
+use native.Mathlib.Nat.{lt-of-lt-of-le}
+use lib.Dec.{lit≤}
+use Rattle.chip.specs.PowerLaws.{power-part, power-kept}
+use borrow.Author.Tests.{ne-eqb}
+use Rattle.chip.specs.Power.{powerUp}
+use borrow.Author.Needs.{needs}
+use Rattle.chip.proofs.power.power_up.Statement.{statement}
+use Rattle.chip.proofs.power.power_up.Tie as tie
+
+power-refusal-requires : tie.Need-power-refusal-requires
+power-refusal-requires c κs = search needs
+
+at-rest-requires : tie.Need-at-rest-requires
+at-rest-requires c κs = search needs
+
+returns : tie.Need-returns
+unfolding powerUp
+returns c = simp (c .at-rest .ensures, ← c .before .before .power-refusal .ensures, ne-eqb _ _ (c .before .if1 .taken))
+
+cast-at-rest : tie.Need-cast-at-rest
+cast-at-rest c =
+    record { fits = lt-of-lt-of-le (power-part _ _ _ (sym (c .before .power-refusal .ensures) ∙ c .if1 .left)) (lit≤ tt) }
+
+cast-at-rest-2 : tie.Need-cast-at-rest-2
+cast-at-rest-2 c =
+    record { fits = power-kept _ _ _ (sym (c .before .power-refusal .ensures) ∙ c .if1 .left) }
+
+at-rest-requires-2 : tie.Need-at-rest-requires-2
+at-rest-requires-2 c κs = search needs
+
+returns-2 : tie.Need-returns-2
+unfolding powerUp
+returns-2 c = simp (c .at-rest2 .ensures, ← c .before .before .power-refusal .ensures, c .before .if1 .left)
+
+pub power-up-spec : {M : Type 1} → statement M
+power-up-spec =
+    tie.close
+    (tie.spec
+    power-refusal-requires
+    at-rest-requires
+    returns
+    cast-at-rest
+    cast-at-rest-2
+    at-rest-requires-2
+    returns-2)

@@ -1,0 +1,14 @@
+use Rattle.chip.specs.Edges.{holdFall}
+use borrow.Author.Needs.{needs}
+use Rattle.chip.proofs.state.State.hold_fall.Statement.{statement}
+use Rattle.chip.proofs.state.State.hold_fall.Tie as tie
+
+is-closed-requires : tie.Need-is-closed-requires
+is-closed-requires c κs = search needs
+
+returns : tie.Need-returns
+unfolding holdFall
+returns c = simp (c .is-closed .ensures)
+
+pub hold-fall-spec : {M : Type 1} → statement M
+hold-fall-spec = tie.close (tie.spec is-closed-requires returns)

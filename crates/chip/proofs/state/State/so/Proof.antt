@@ -1,0 +1,24 @@
+use Rattle.chip.specs.Lines.{soLevel}
+use borrow.Author.Needs.{needs}
+use Rattle.chip.proofs.state.State.so.Statement.{statement}
+use Rattle.chip.proofs.state.State.so.Tie as tie
+
+enum-told : tie.Need-enum-told
+enum-told c = search needs
+
+stage-level-requires : tie.Need-stage-level-requires
+stage-level-requires c κs = search needs
+
+enum-told-2 : tie.Need-enum-told-2
+enum-told-2 c = search needs
+
+returns : tie.Need-returns
+unfolding soLevel
+returns c = simp (c .stage-level .ensures, c .before .enum-told .given .1)
+
+returns-2 : tie.Need-returns-2
+unfolding soLevel
+returns-2 c = simp (c .enum-told2 .given .1)
+
+pub so-spec : {M : Type 1} → statement M
+so-spec = tie.close (tie.spec enum-told stage-level-requires enum-told-2 returns returns-2)

@@ -1,0 +1,112 @@
+-- One event, and the refusals (document 01, "Refusals and their order"). Assumes nothing.
+use Prim.Native.Nat.{ℕ, _/_, _%_}
+use mathlib.Core.Bool.{Bool, true, false, not, _&&_}
+use mathlib.Core.List.{List}
+use lib.ListN.{length, set}
+use lib.Dec.{eqb, leb, ltb}
+use lib.Bits.{bitAnd}
+use Rattle.parts.specs.Choice.{pick}
+use Rattle.parts.specs.Figures.{figureOf, isPart}
+use Rattle.parts.specs.declared.figures.Figure.{Figure}
+use Rattle.parts.specs.declared.guards.Reason.{Reason}
+use Rattle.select.specs.Close.{isClosed}
+use Rattle.select.specs.declared.notes.Level.the-variants.{Released}
+use Rattle.select.specs.declared.notes.Note.{Note}
+use Rattle.select.specs.declared.notes.Note.the-variants.{Nothing, Latch, Stored, HeldBack, KeptSet, KeptHeldBack, PowerLost}
+use Rattle.chip.specs.Lines.{atRest, csLevel, soLevel}
+use Rattle.chip.specs.Edges.{still, withSi, withWp, csFall, csRise, sckRise, sckFall, holdFall, holdRise, cut}
+use Rattle.chip.specs.Sound.{isOff, sound}
+use Rattle.chip.specs.declared.state.State.{State}
+use Rattle.chip.specs.declared.state.Moved.{Moved}
+use Rattle.chip.specs.declared.event.Answer.{Answer}
+
+-- "The answer to an event: a refusal number or 0; the state; the level of SO after it; and one note"
+abbrev pub accepted : Moved → Answer
+accepted m = record { refusal = 0; so = soLevel (m .state); note = m .note; state = m .state }
+
+-- "Any other refusal returns its number with the state given; SO reads released, the note is nothing."
+abbrev pub refused : ℕ → State → Answer
+refused number s = record { refusal = number; so = Released; note = Nothing; state = s }
+
+-- "Setting a pin to the level it has is accepted and has no effect."
+abbrev pub csTo : State → Bool → Moved
+csTo s true = pick (csLevel s) (still s) (csRise s)
+csTo s false = pick (csLevel s) (csFall s) (still s)
+
+abbrev pub sckTo : Figure → List ℕ → State → Bool → Moved
+sckTo f xs s true = pick (s .sck) (still s) (sckRise f s)
+sckTo f xs s false = pick (s .sck) (sckFall f xs s) (still s)
+
+abbrev pub siTo : State → Bool → Moved
+siTo s level = still (withSi s level)
+
+-- "/HOLD may move only with SCK low, select open or not. It may rise only with /CS at the level it had when /HOLD
+--  fell (H)." That level was high exactly where no select is open.
+unfoldable pub csStayed : State → Bool
+csStayed s = pick (isClosed (s .stage)) (csLevel s) (not (csLevel s))
+
+abbrev pub holdTo : State → Bool → Answer
+holdTo s true =
+    pick (isOff (s .hold)) (accepted (still s))
+    (pick (s .sck) (refused 6 s)
+    (pick (csStayed s) (accepted (holdRise s)) (refused 7 s)))
+holdTo s false =
+    pick (isOff (s .hold))
+    (pick (s .sck) (refused 6 s) (accepted (holdFall s)))
+    (accepted (still s))
+
+-- "Its level is followed at all times with power on, during hold too."
+abbrev pub wpTo : State → Bool → Moved
+wpTo s level = still (withWp s level)
+
+abbrev pub vddTo : State → Bool → Moved
+vddTo s true = still s
+vddTo s false = cut s
+
+-- "Pins: 0 /CS, 1 SCK, 2 SI, 3 /HOLD, 4 /WP, 5 VDD."
+unfoldable pub live : Figure → List ℕ → State → ℕ → Bool → Answer
+live f xs s pin level =
+    pick (eqb pin 0) (accepted (csTo s level))
+    (pick (eqb pin 1) (accepted (sckTo f xs s level))
+    (pick (eqb pin 2) (accepted (siTo s level))
+    (pick (eqb pin 3) (holdTo s level)
+    (pick (eqb pin 4) (accepted (wpTo s level))
+    (accepted (vddTo s level))))))
+
+-- "With power off, each event but 11 is accepted and has no effect." "Event 11 then gives the power-up state, with the
+--  note nothing."
+abbrev pub dark : State → ℕ → Answer
+dark s code = accepted (still (pick (eqb code 11) (atRest (s .part) (s .kept) true) s))
+
+-- "its code is twice the pin number plus the level"
+unfoldable pub step : Figure → List ℕ → State → ℕ → Answer
+step f xs s code = pick (s .power) (live f xs s (code / 2) (eqb (code % 2) 1)) (dark s code)
+
+-- "2 | array length is not the part's"
+abbrev pub fitsPart : ℕ → ℕ → Bool
+fitsPart part len = eqb len (figureOf part .size)
+
+-- "An event checks 4, 2, 5, 6, 7." The first three; 0 where none is given.
+unfoldable pub checks : State → ℕ → ℕ → ℕ
+checks s len code =
+    pick (not (sound s)) 4
+    (pick (not (fitsPart (s .part) len)) 2
+    (pick (leb 12 code) 5
+    0))
+
+-- one event on the lent array
+unfoldable pub event : List ℕ → State → ℕ → Answer
+event xs s code =
+    pick (eqb (checks s (length xs) code) 0)
+    (step (figureOf (s .part)) xs s code)
+    (refused (checks s (length xs) code) s)
+
+-- the array after an event: one byte changes, where the note says stored
+unfoldable pub written : Note → List ℕ → List ℕ
+written Nothing xs = xs
+written (Latch on) xs = xs
+written (Stored at byte) xs = set xs at byte
+written (HeldBack at reason) xs = xs
+written (KeptSet kept) xs = xs
+written (KeptHeldBack reason) xs = xs
+written PowerLost xs = xs

@@ -1,0 +1,48 @@
+-- Two outcomes that both satisfy a public call's promise are the same: the answer, and every byte of the lent slice.
+-- Where the promise is an equation to a definition there is nothing to it; the event's answer goes by its numbers, which
+-- say all. Assumes nothing.
+use Prim.Native.Nat.{ℕ}
+use mathlib.Core.Path.{_≡_, sym, ap, _∙_}
+use mathlib.Core.Bool.{Bool}
+use mathlib.Core.List.{List}
+use lib.ListN.{length}
+use Rattle.select.specs.NoteLaws.{level-one, note-one}
+use Rattle.chip.specs.Answers.{Paper, paper}
+use Rattle.chip.specs.Event.{event, written}
+use Rattle.chip.specs.Power.{powerUp, fillRefusal, filled}
+use Rattle.chip.specs.Sound.{sound}
+use Rattle.chip.specs.declared.event.Answer.{Answer}
+use Rattle.chip.specs.declared.power.Powered.{Powered}
+use Rattle.chip.specs.declared.state.State.{State}
+
+one : {A : Type 0} {a b c : A} → a ≡ c → b ≡ c → a ≡ b
+one p q = p ∙ sym q
+
+pub paper-one : (a b : Answer) → paper a ≡ paper b → a ≡ b
+paper-one a b e = λ i. record { refusal = e i .refusal; so = so i; note = note i; state = e i .state }
+  where
+    so : a .so ≡ b .so
+    so = level-one (a .so) (b .so) (ap (λ (p : Paper). p .so) e)
+    note : a .note ≡ b .note
+    note = note-one (a .note) (b .note) (ap (λ (p : Paper). p .note) e)
+
+-- what a call leaves: its answer and the lent array
+module _ (xs : List ℕ) (s : State) (code : ℕ) where
+  pub event-one : (a b : Answer) (ys zs : List ℕ)
+    → (paper a ≡ paper (event xs s code)) × (ys ≡ written (event xs s code .note) xs)
+    → (paper b ≡ paper (event xs s code)) × (zs ≡ written (event xs s code .note) xs)
+    → (a ≡ b) × (ys ≡ zs)
+  event-one a b ys zs p q = (paper-one a b (one (p .0) (q .0)), one (p .1) (q .1))
+
+module _ (part kept : ℕ) (xs : List ℕ) where
+  pub power-up-one : (a b : Powered) → a ≡ powerUp part kept xs → b ≡ powerUp part kept xs → a ≡ b
+  power-up-one a b = one
+
+  pub fill-one : (a b : ℕ) (ys zs : List ℕ)
+    → (a ≡ fillRefusal part (length xs)) × (ys ≡ filled part xs)
+    → (b ≡ fillRefusal part (length xs)) × (zs ≡ filled part xs)
+    → (a ≡ b) × (ys ≡ zs)
+  fill-one a b ys zs p q = (one (p .0) (q .0), one (p .1) (q .1))
+
+pub sound-one : (s : State) (a b : Bool) → a ≡ sound s → b ≡ sound s → a ≡ b
+sound-one s a b = one

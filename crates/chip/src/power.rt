@@ -1,0 +1,76 @@
+// Power-up, and a fresh array.
+ghost use mathlib.Core.Path.{_≡_};
+ghost use lib.ListN.{length, replicate};
+ghost use Rattle.chip.specs.Power.{powerRefusal, powerUp, fillRefusal, filled};
+use crate::state::State;
+use parts::figures::figure_of;
+use parts::figures::is_part;
+
+pub struct Powered {
+    pub refusal: u8,
+    pub state: State,
+}
+
+fn power_refusal(part: u64, kept: u64, len: usize) -> u8
+    ensures { λ r. ⌜ r ≡ powerRefusal part kept len ⌝ }
+{
+    if !is_part(part) {
+        return 1;
+    }
+    let f = figure_of(part);
+    if len != f.size {
+        return 2;
+    }
+    if kept & (f.kept as u64) != kept {
+        return 3;
+    }
+    0
+}
+
+pub fn power_up(part: u64, kept: u64, array: &[u8]) -> Powered
+    ensures { λ r. ⌜ r ≡ powerUp part kept (now (array .entry)) ⌝ }
+{
+    let refusal = power_refusal(part, kept, array.len());
+    if refusal != 0 {
+        let state = State::at_rest(1, 0, false);
+        return Powered { refusal, state };
+    }
+    let state = State::at_rest(part as u8, kept as u8, true);
+    Powered { refusal, state }
+}
+
+fn fill_refusal(part: u64, len: usize) -> u8
+    ensures { λ r. ⌜ r ≡ fillRefusal part len ⌝ }
+{
+    if !is_part(part) {
+        return 1;
+    }
+    let f = figure_of(part);
+    if len != f.size {
+        return 2;
+    }
+    0
+}
+
+// Every byte of the array set to one value.
+fn fill_with(array: &mut [u8], byte: u8)
+    ensures { λ _. ⌜ now (array .exit) ≡ replicate (length (now (array .entry))) byte ⌝ }
+{
+    let mut i = 0;
+    while i < array.len() {
+        array[i] = byte;
+        i += 1;
+    }
+}
+
+// A fresh array. It answers the refusal, or 0.
+pub fn fill(part: u64, array: &mut [u8]) -> u8
+    ensures { λ r. ⌜ r ≡ fillRefusal part (length (now (array .entry))) ⌝ }
+    ensures { λ _. ⌜ now (array .exit) ≡ filled part (now (array .entry)) ⌝ }
+{
+    let refusal = fill_refusal(part, array.len());
+    if refusal == 0 {
+        fill_with(array, 0);
+    }
+    refusal
+}

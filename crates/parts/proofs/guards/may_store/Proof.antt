@@ -1,0 +1,28 @@
+use borrow.Author.Tests.{le-leb, lt-leb}
+use Rattle.parts.specs.Guards.{mayStore}
+use borrow.Author.Needs.{needs}
+use Rattle.parts.proofs.guards.may_store.Statement.{statement}
+use Rattle.parts.proofs.guards.may_store.Tie as tie
+
+first-protected-requires : tie.Need-first-protected-requires
+first-protected-requires c κs = search needs
+
+returns : tie.Need-returns
+unfolding mayStore
+returns c = simp (c .if1 .taken)
+
+returns-2 : tie.Need-returns-2
+unfolding mayStore
+returns-2 c = simp (c .if2 .taken, c .before .before .if1 .left)
+
+returns-3 : tie.Need-returns-3
+unfolding mayStore
+returns-3 c = simp (← c .before .before .before .before .first-protected .ensures, le-leb _ _ (c .if3 .taken), c .before .if2 .left, c .before .before .before .if1 .left)
+
+returns-4 : tie.Need-returns-4
+unfolding mayStore
+returns-4 c = simp (← c .before .before .before .before .first-protected .ensures, lt-leb _ _ (c .if3 .left), c .before .if2 .left, c .before .before .before .if1 .left)
+
+pub may-store-spec : {M : Type 1} → statement M
+may-store-spec =
+    tie.close (tie.spec first-protected-requires returns returns-2 returns-3 returns-4)

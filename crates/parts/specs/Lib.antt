@@ -1,0 +1,7 @@
+pub mod Choice
+pub mod Figures
+pub mod Commands
+pub mod Guards
+pub mod FigureLaws
+pub mod MaskLaws
+pub mod TestLaws

@@ -1,0 +1,126 @@
+use Rattle.select.specs.Rise.{rise}
+use borrow.Author.Needs.{needs}
+use Rattle.select.proofs.rise.rise.Statement.{statement}
+use Rattle.select.proofs.rise.rise.Tie as tie
+
+enum-told : tie.Need-enum-told
+enum-told c = search needs
+
+to-stage-requires : tie.Need-to-stage-requires
+to-stage-requires c κs = search needs
+
+enum-known-stage : tie.Need-enum-known-stage
+enum-known-stage c = search needs
+
+code-rise-requires : tie.Need-code-rise-requires
+code-rise-requires c κs = search needs
+
+enum-known-stage-2 : tie.Need-enum-known-stage-2
+enum-known-stage-2 c = search needs
+
+upper-rise-requires : tie.Need-upper-rise-requires
+upper-rise-requires c κs = search needs
+
+enum-known-stage-3 : tie.Need-enum-known-stage-3
+enum-known-stage-3 c = search needs
+
+lower-rise-requires : tie.Need-lower-rise-requires
+lower-rise-requires c κs = search needs
+
+enum-told-2 : tie.Need-enum-told-2
+enum-told-2 c = search needs
+
+to-stage-requires-2 : tie.Need-to-stage-requires-2
+to-stage-requires-2 c κs = search needs
+
+enum-told-3 : tie.Need-enum-told-3
+enum-told-3 c = search needs
+
+to-stage-requires-3 : tie.Need-to-stage-requires-3
+to-stage-requires-3 c κs = search needs
+
+enum-known-stage-4 : tie.Need-enum-known-stage-4
+enum-known-stage-4 c = search needs
+
+write-rise-requires : tie.Need-write-rise-requires
+write-rise-requires c κs = search needs
+
+enum-known-stage-5 : tie.Need-enum-known-stage-5
+enum-known-stage-5 c = search needs
+
+keep-rise-requires : tie.Need-keep-rise-requires
+keep-rise-requires c κs = search needs
+
+enum-told-4 : tie.Need-enum-told-4
+enum-told-4 c = search needs
+
+to-stage-requires-4 : tie.Need-to-stage-requires-4
+to-stage-requires-4 c κs = search needs
+
+returns : tie.Need-returns
+unfolding rise
+returns c = simp (c .to-stage .ensures, c .before .enum-told .given .1)
+
+returns-2 : tie.Need-returns-2
+unfolding rise
+returns-2 c = simp (c .code-rise .ensures, c .before .before .stage .given .1)
+
+returns-3 : tie.Need-returns-3
+unfolding rise
+returns-3 c = simp (c .upper-rise .ensures, c .before .before .stage2 .given .1)
+
+returns-4 : tie.Need-returns-4
+unfolding rise
+returns-4 c = simp (c .lower-rise .ensures, c .before .before .stage3 .given .1)
+
+returns-5 : tie.Need-returns-5
+unfolding rise
+returns-5 c = simp (c .to-stage2 .ensures, c .before .enum-told2 .given .1)
+
+returns-6 : tie.Need-returns-6
+unfolding rise
+returns-6 c = simp (c .to-stage3 .ensures, c .before .enum-told3 .given .1)
+
+returns-7 : tie.Need-returns-7
+unfolding rise
+returns-7 c = simp (c .write-rise .ensures, c .before .before .stage4 .given .1)
+
+returns-8 : tie.Need-returns-8
+unfolding rise
+returns-8 c = simp (c .keep-rise .ensures, c .before .before .stage5 .given .1)
+
+returns-9 : tie.Need-returns-9
+unfolding rise
+returns-9 c = simp (c .to-stage4 .ensures, c .before .enum-told4 .given .1)
+
+pub rise-spec : {M : Type 1} → statement M
+rise-spec =
+    tie.close
+    (tie.spec
+    enum-told
+    to-stage-requires
+    enum-known-stage
+    code-rise-requires
+    enum-known-stage-2
+    upper-rise-requires
+    enum-known-stage-3
+    lower-rise-requires
+    enum-told-2
+    to-stage-requires-2
+    enum-told-3
+    to-stage-requires-3
+    enum-known-stage-4
+    write-rise-requires
+    enum-known-stage-5
+    keep-rise-requires
+    enum-told-4
+    to-stage-requires-4
+    returns
+    returns-2
+    returns-3
+    returns-4
+    returns-5
+    returns-6
+    returns-7
+    returns-8
+    returns-9)
