@@ -1,9 +1,8 @@
 -- The pins' edges: the state after a pin moved, with the note. "While /HOLD is low, moves of SCK and /CS are not seen,
 -- only their levels kept". Assumes nothing.
 use Prim.Native.Nat.{ℕ}
-use mathlib.Core.Bool.{Bool, true, false, _&&_}
+use mathlib.Core.Bool.{Bool, true, false, cond, _&&_}
 use mathlib.Core.List.{List}
-use Rattle.parts.specs.Choice.{pick}
 use Rattle.parts.specs.declared.figures.Figure.{Figure}
 use Rattle.select.specs.Bits.{fresh}
 use Rattle.select.specs.Close.{isClosed, drops}
@@ -106,7 +105,7 @@ csFall s = still (csFallIn s (s .hold))
 -- "a seen rise closes it and releases SO". "The note then is latch 0 if the latch was set, else nothing."
 abbrev pub csRiseIn : State → Hold → Moved
 csRiseIn s Off =
-    pick (s .latch && drops (s .stage))
+    cond (s .latch && drops (s .stage))
     (record { state = withStage s false Closed; note = Latch false })
     (still (withStage s (s .latch) Closed))
 csRiseIn s (On level) = still (withHold s (On true))

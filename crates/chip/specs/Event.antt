@@ -1,11 +1,10 @@
 -- One event, and the refusals (document 01, "Refusals and their order"). Assumes nothing.
 use Prim.Native.Nat.{ℕ, _/_, _%_}
-use mathlib.Core.Bool.{Bool, true, false, not, _&&_}
+use mathlib.Core.Bool.{Bool, true, false, cond, not, _&&_}
 use mathlib.Core.List.{List}
 use lib.ListN.{length, set}
 use lib.Dec.{eqb, leb, ltb}
 use lib.Bits.{bitAnd}
-use Rattle.parts.specs.Choice.{pick}
 use Rattle.parts.specs.Figures.{figureOf, isPart}
 use Rattle.parts.specs.declared.figures.Figure.{Figure}
 use Rattle.parts.specs.declared.guards.Reason.{Reason}
@@ -30,12 +29,12 @@ refused number s = record { refusal = number; so = Released; note = Nothing; sta
 
 -- "Setting a pin to the level it has is accepted and has no effect."
 abbrev pub csTo : State → Bool → Moved
-csTo s true = pick (csLevel s) (still s) (csRise s)
-csTo s false = pick (csLevel s) (csFall s) (still s)
+csTo s true = cond (csLevel s) (still s) (csRise s)
+csTo s false = cond (csLevel s) (csFall s) (still s)
 
 abbrev pub sckTo : Figure → List ℕ → State → Bool → Moved
-sckTo f xs s true = pick (s .sck) (still s) (sckRise f s)
-sckTo f xs s false = pick (s .sck) (sckFall f xs s) (still s)
+sckTo f xs s true = cond (s .sck) (still s) (sckRise f s)
+sckTo f xs s false = cond (s .sck) (sckFall f xs s) (still s)
 
 abbrev pub siTo : State → Bool → Moved
 siTo s level = still (withSi s level)
@@ -43,16 +42,16 @@ siTo s level = still (withSi s level)
 -- "/HOLD may move only with SCK low, select open or not. It may rise only with /CS at the level it had when /HOLD
 --  fell (H)." That level was high exactly where no select is open.
 unfoldable pub csStayed : State → Bool
-csStayed s = pick (isClosed (s .stage)) (csLevel s) (not (csLevel s))
+csStayed s = cond (isClosed (s .stage)) (csLevel s) (not (csLevel s))
 
 abbrev pub holdTo : State → Bool → Answer
 holdTo s true =
-    pick (isOff (s .hold)) (accepted (still s))
-    (pick (s .sck) (refused 6 s)
-    (pick (csStayed s) (accepted (holdRise s)) (refused 7 s)))
+    cond (isOff (s .hold)) (accepted (still s))
+    (cond (s .sck) (refused 6 s)
+    (cond (csStayed s) (accepted (holdRise s)) (refused 7 s)))
 holdTo s false =
-    pick (isOff (s .hold))
-    (pick (s .sck) (refused 6 s) (accepted (holdFall s)))
+    cond (isOff (s .hold))
+    (cond (s .sck) (refused 6 s) (accepted (holdFall s)))
     (accepted (still s))
 
 -- "Its level is followed at all times with power on, during hold too."
@@ -66,21 +65,21 @@ vddTo s false = cut s
 -- "Pins: 0 /CS, 1 SCK, 2 SI, 3 /HOLD, 4 /WP, 5 VDD."
 unfoldable pub live : Figure → List ℕ → State → ℕ → Bool → Answer
 live f xs s pin level =
-    pick (eqb pin 0) (accepted (csTo s level))
-    (pick (eqb pin 1) (accepted (sckTo f xs s level))
-    (pick (eqb pin 2) (accepted (siTo s level))
-    (pick (eqb pin 3) (holdTo s level)
-    (pick (eqb pin 4) (accepted (wpTo s level))
+    cond (eqb pin 0) (accepted (csTo s level))
+    (cond (eqb pin 1) (accepted (sckTo f xs s level))
+    (cond (eqb pin 2) (accepted (siTo s level))
+    (cond (eqb pin 3) (holdTo s level)
+    (cond (eqb pin 4) (accepted (wpTo s level))
     (accepted (vddTo s level))))))
 
 -- "With power off, each event but 11 is accepted and has no effect." "Event 11 then gives the power-up state, with the
 --  note nothing."
 abbrev pub dark : State → ℕ → Answer
-dark s code = accepted (still (pick (eqb code 11) (atRest (s .part) (s .kept) true) s))
+dark s code = accepted (still (cond (eqb code 11) (atRest (s .part) (s .kept) true) s))
 
 -- "its code is twice the pin number plus the level"
 unfoldable pub step : Figure → List ℕ → State → ℕ → Answer
-step f xs s code = pick (s .power) (live f xs s (code / 2) (eqb (code % 2) 1)) (dark s code)
+step f xs s code = cond (s .power) (live f xs s (code / 2) (eqb (code % 2) 1)) (dark s code)
 
 -- "2 | array length is not the part's"
 abbrev pub fitsPart : ℕ → ℕ → Bool
@@ -89,15 +88,15 @@ fitsPart part len = eqb len (figureOf part .size)
 -- "An event checks 4, 2, 5, 6, 7." The first three; 0 where none is given.
 unfoldable pub checks : State → ℕ → ℕ → ℕ
 checks s len code =
-    pick (not (sound s)) 4
-    (pick (not (fitsPart (s .part) len)) 2
-    (pick (leb 12 code) 5
+    cond (not (sound s)) 4
+    (cond (not (fitsPart (s .part) len)) 2
+    (cond (leb 12 code) 5
     0))
 
 -- one event on the lent array
 unfoldable pub event : List ℕ → State → ℕ → Answer
 event xs s code =
-    pick (eqb (checks s (length xs) code) 0)
+    cond (eqb (checks s (length xs) code) 0)
     (step (figureOf (s .part)) xs s code)
     (refused (checks s (length xs) code) s)
 

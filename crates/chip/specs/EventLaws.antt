@@ -1,12 +1,11 @@
 -- An event by what its checks give. Assumes nothing.
 use Prim.Native.Nat.{ℕ, _<_}
 use mathlib.Core.Path.{_≡_, refl}
-use mathlib.Core.Bool.{Bool, true, false, not}
+use mathlib.Core.Bool.{Bool, true, false, cond, not}
 use mathlib.Core.List.{List}
 use lib.ListN.{length}
 use lib.Dec.{eqb, leb}
 use borrow.Author.Tests.{eqb-false, leb-false}
-use Rattle.parts.specs.Choice.{pick}
 use Rattle.parts.specs.Figures.{figureOf}
 use Rattle.chip.specs.Event.{checks, event, step, refused, fitsPart}
 use Rattle.chip.specs.Sound.{sound}
@@ -30,7 +29,7 @@ pub checks-known : (s : State) (len code : ℕ) → checks s len code ≡ 0 → 
 unfolding checks
 checks-known s len code = go (sound s) (fitsPart (s .part) len) (leb 12 code) refl
   where
-    go : (a b t : Bool) → leb 12 code ≡ t → _≡_ {A = ℕ} (pick (not a) 4 (pick (not b) 2 (pick t 5 0))) 0 → code < 12
+    go : (a b t : Bool) → leb 12 code ≡ t → _≡_ {A = ℕ} (cond (not a) 4 (cond (not b) 2 (cond t 5 0))) 0 → code < 12
     go false b t e h = absurd (eqb-false 4 0 refl h)
     go true false t e h = absurd (eqb-false 2 0 refl h)
     go true true true e h = absurd (eqb-false 5 0 refl h)

@@ -2,12 +2,11 @@
 -- proof. Assumes nothing.
 use Prim.Native.Nat.{ℕ, _+_, _*_, _/_, _%_, _^_}
 use mathlib.Core.Path.{refl}
-use mathlib.Core.Bool.{Bool, true, false, _&&_}
+use mathlib.Core.Bool.{Bool, true, false, cond, _&&_}
 use mathlib.Core.List.{List, [], _∷_, _++_}
 use lib.ListN.{length, getD, set, take, replicate}
 use lib.Bits.{bitAnd, bitOr}
 use lib.Dec.{T, eqb, leb, ltb}
-use Rattle.parts.specs.Choice.{pick}
 use Rattle.parts.specs.Figures.{figureOf}
 use Rattle.parts.specs.Commands.{command}
 use Rattle.parts.specs.Guards.{firstProtected, mayStore, mayKeep}
@@ -59,7 +58,7 @@ record Run : Type 0 where
   levels : List ℕ
 
 noted : NoteNumbers → List ℕ → List ℕ
-noted n rest = pick (eqb (n .kind) 0) rest (n .kind ∷ n .first ∷ n .second ∷ rest)
+noted n rest = cond (eqb (n .kind) 0) rest (n .kind ∷ n .first ∷ n .second ∷ rest)
 
 answered : State → ℕ → Answer → Run → Run
 answered s code a r =
@@ -67,7 +66,7 @@ answered s code a r =
       state = r .state;
       array = r .array;
       notes = noted (noteNumbers (a .note)) (r .notes);
-      levels = pick (seesRise s code) (levelNumber (soLevel s) ∷ r .levels) (r .levels);
+      levels = cond (seesRise s code) (levelNumber (soLevel s) ∷ r .levels) (r .levels);
     }
 
 run : State → List ℕ → List ℕ → Run
@@ -85,7 +84,7 @@ same (x ∷ xs) (y ∷ ys) = eqb x y && same xs ys
 -- the levels that SO was driven to, eight a byte
 driven : List ℕ → List ℕ
 driven [] = []
-driven (l ∷ ls) = pick (eqb l 2) (driven ls) (l ∷ driven ls)
+driven (l ∷ ls) = cond (eqb l 2) (driven ls) (l ∷ driven ls)
 
 bits : ℕ → List ℕ
 bits byte = byte / 128 % 2 ∷ byte / 64 % 2 ∷ byte / 32 % 2 ∷ byte / 16 % 2 ∷ byte / 8 % 2 ∷ byte / 4 % 2 ∷ byte / 2 % 2 ∷ byte % 2 ∷ []
@@ -121,7 +120,7 @@ ends e r =
     && same (driven (r .levels)) (bitsOf (e .shown))
     && same (r .array) (stored (fresh (e .part)) (e .bytes))
     && eqb (r .state .kept) (e .keptAfter)
-    && pick (r .state .latch) (e .latchAfter) (pick (e .latchAfter) false true)
+    && cond (r .state .latch) (e .latchAfter) (cond (e .latchAfter) false true)
 
 holds : Example → Bool
 holds e = ends e (run (atRest (e .part) (e .kept) true) (fresh (e .part)) (e .events))

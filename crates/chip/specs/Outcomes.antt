@@ -23,15 +23,16 @@ paper-one a b e = λ i. record { refusal = e i .refusal; so = so i; note = note 
   where
     so : a .so ≡ b .so
     so = level-one (a .so) (b .so) (ap (λ (p : Paper). p .so) e)
+
     note : a .note ≡ b .note
     note = note-one (a .note) (b .note) (ap (λ (p : Paper). p .note) e)
 
 -- what a call leaves: its answer and the lent array
 module _ (xs : List ℕ) (s : State) (code : ℕ) where
   pub event-one : (a b : Answer) (ys zs : List ℕ)
-    → (paper a ≡ paper (event xs s code)) × (ys ≡ written (event xs s code .note) xs)
-    → (paper b ≡ paper (event xs s code)) × (zs ≡ written (event xs s code .note) xs)
-    → (a ≡ b) × (ys ≡ zs)
+      → (paper a ≡ paper (event xs s code)) × (ys ≡ written (event xs s code .note) xs)
+      → (paper b ≡ paper (event xs s code)) × (zs ≡ written (event xs s code .note) xs)
+      → (a ≡ b) × (ys ≡ zs)
   event-one a b ys zs p q = (paper-one a b (one (p .0) (q .0)), one (p .1) (q .1))
 
 module _ (part kept : ℕ) (xs : List ℕ) where
@@ -39,9 +40,9 @@ module _ (part kept : ℕ) (xs : List ℕ) where
   power-up-one a b = one
 
   pub fill-one : (a b : ℕ) (ys zs : List ℕ)
-    → (a ≡ fillRefusal part (length xs)) × (ys ≡ filled part xs)
-    → (b ≡ fillRefusal part (length xs)) × (zs ≡ filled part xs)
-    → (a ≡ b) × (ys ≡ zs)
+      → (a ≡ fillRefusal part (length xs)) × (ys ≡ filled part xs)
+      → (b ≡ fillRefusal part (length xs)) × (zs ≡ filled part xs)
+      → (a ≡ b) × (ys ≡ zs)
   fill-one a b ys zs p q = (one (p .0) (q .0), one (p .1) (q .1))
 
 pub sound-one : (s : State) (a b : Bool) → a ≡ sound s → b ≡ sound s → a ≡ b

@@ -1,10 +1,9 @@
 -- Power-up, and a fresh array. Assumes nothing.
 use Prim.Native.Nat.{ℕ}
-use mathlib.Core.Bool.{Bool, true, false, not}
+use mathlib.Core.Bool.{Bool, true, false, cond, not}
 use mathlib.Core.List.{List}
 use lib.ListN.{length, replicate}
 use lib.Dec.{eqb}
-use Rattle.parts.specs.Choice.{pick}
 use Rattle.parts.specs.Figures.{isPart}
 use Rattle.chip.specs.Lines.{atRest}
 use Rattle.chip.specs.Event.{fitsPart}
@@ -13,24 +12,24 @@ use Rattle.chip.specs.declared.power.Powered.{Powered}
 
 -- "Filling a fresh array with 00 checks 1, 2."
 unfoldable pub fillRefusal : ℕ → ℕ → ℕ
-fillRefusal part len = pick (not (isPart part)) 1 (pick (not (fitsPart part len)) 2 0)
+fillRefusal part len = cond (not (isPart part)) 1 (cond (not (fitsPart part len)) 2 0)
 
 -- "Lent memory stays at every refusal."
 unfoldable pub filled : ℕ → List ℕ → List ℕ
-filled part xs = pick (eqb (fillRefusal part (length xs)) 0) (replicate (length xs) 0) xs
+filled part xs = cond (eqb (fillRefusal part (length xs)) 0) (replicate (length xs) 0) xs
 
 -- "Power-up checks 1, 2, 3."
 unfoldable pub powerRefusal : ℕ → ℕ → ℕ → ℕ
 powerRefusal part kept len =
-    pick (not (isPart part)) 1
-    (pick (not (fitsPart part len)) 2
-    (pick (not (inMask part kept)) 3
+    cond (not (isPart part)) 1
+    (cond (not (fitsPart part len)) 2
+    (cond (not (inMask part kept)) 3
     0))
 
 -- "A refused power-up returns part 1 in the off state with kept bits 0." "An accepted power-up call gives that
 --  state too."
 unfoldable pub powerUp : ℕ → ℕ → List ℕ → Powered
 powerUp part kept xs =
-    pick (eqb (powerRefusal part kept (length xs)) 0)
+    cond (eqb (powerRefusal part kept (length xs)) 0)
     (record { refusal = 0; state = atRest part kept true })
     (record { refusal = powerRefusal part kept (length xs); state = atRest 1 0 false })

@@ -1,12 +1,11 @@
 -- What an accepted power-up says of its numbers: both pass their tests, and so both fit a byte. Assumes nothing.
 use Prim.Native.Nat.{ℕ, _<_}
 use mathlib.Core.Path.{_≡_, refl}
-use mathlib.Core.Bool.{Bool, true, false, not}
+use mathlib.Core.Bool.{Bool, true, false, cond, not}
 use native.Mathlib.Nat.{lt-of-le-of-lt}
 use borrow.Author.Tests.{eqb-false, eqb-true, ltb-true}
 use lib.Bits.{bitAnd, and-le-r}
 use lib.Dec.{eqb, ltb}
-use Rattle.parts.specs.Choice.{pick}
 use Rattle.parts.specs.Figures.{figureOf, isPart}
 use Rattle.parts.specs.FigureLaws.{fair}
 use Rattle.parts.specs.TestLaws.{right}
@@ -14,7 +13,7 @@ use Rattle.chip.specs.Event.{fitsPart}
 use Rattle.chip.specs.Power.{powerRefusal}
 use Rattle.chip.specs.Sound.{inMask}
 
-passed : (a b d : Bool) → _≡_ {A = ℕ} (pick (not a) 1 (pick (not b) 2 (pick (not d) 3 0))) 0 → (a ≡ true) × (d ≡ true)
+passed : (a b d : Bool) → _≡_ {A = ℕ} (cond (not a) 1 (cond (not b) 2 (cond (not d) 3 0))) 0 → (a ≡ true) × (d ≡ true)
 passed false b d h = absurd (eqb-false 1 0 refl h)
 passed true false d h = absurd (eqb-false 2 0 refl h)
 passed true true false h = absurd (eqb-false 3 0 refl h)

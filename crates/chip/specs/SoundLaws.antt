@@ -2,13 +2,12 @@
 -- kept bits and the stage are tested, so an edge that changes none of them keeps soundness as it is. Assumes nothing.
 use Prim.Native.Nat.{ℕ, _/_, _%_}
 use mathlib.Core.Path.{_≡_, refl, _∙_}
-use mathlib.Core.Bool.{Bool, true, false, _&&_, _||_}
+use mathlib.Core.Bool.{Bool, true, false, cond, _&&_, _||_}
 use mathlib.Core.List.{List}
 use borrow.Author.Tests.{eqb-true, eq-eqb}
 use lib.ListN.{length}
 use lib.Bits.{bitAnd}
 use lib.Dec.{eqb}
-use Rattle.parts.specs.Choice.{pick}
 use Rattle.parts.specs.FigureLaws.{fair}
 use Rattle.parts.specs.Figures.{figureOf, isPart}
 use Rattle.parts.specs.TestLaws.{both, left, right, choose}
@@ -152,7 +151,7 @@ module _ (s : State) (h : sound s ≡ true) where
   unfolding step
   step-sound xs code = go (s .power) refl
     where
-      go : (t : Bool) → s .power ≡ t → Answers (pick t (live (figureOf (s .part)) xs s (code / 2) (eqb (code % 2) 1)) (dark s code))
+      go : (t : Bool) → s .power ≡ t → Answers (cond t (live (figureOf (s .part)) xs s (code / 2) (eqb (code % 2) 1)) (dark s code))
       go true e = live-sound s h e xs (code / 2) (eqb (code % 2) 1)
       go false e = dark-sound code
 
@@ -171,7 +170,7 @@ unfolding powerUp
 power-sound part kept xs = go (eqb (powerRefusal part kept (length xs)) 0) refl
   where
     go : (t : Bool) → eqb (powerRefusal part kept (length xs)) 0 ≡ t
-        → sound (pick {A = Powered} t (record { refusal = 0; state = atRest part kept true }) (record { refusal = powerRefusal part kept (length xs); state = atRest 1 0 false }) .state) ≡ true
+        → sound (cond {A = Powered} t (record { refusal = 0; state = atRest part kept true }) (record { refusal = powerRefusal part kept (length xs); state = atRest 1 0 false }) .state) ≡ true
     go true e =
         let p = power-passed part kept (length xs) (eqb-true (powerRefusal part kept (length xs)) 0 e) in
         rest-sound part kept true (p .0) (p .1)

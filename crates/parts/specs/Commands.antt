@@ -2,7 +2,7 @@
 use Prim.Native.Nat.{ℕ}
 use lib.Dec.{eqb}
 use lib.Bits.{bitOr}
-use Rattle.parts.specs.Choice.{pick}
+use mathlib.Core.Bool.{cond}
 use Rattle.parts.specs.declared.figures.Codes.{Codes}
 use Rattle.parts.specs.declared.commands.Command.{Command}
 use Rattle.parts.specs.declared.commands.Command.the-variants.{Wren, Wrdi, Rdsr, Wrsr, Read, Write, Other}
@@ -11,10 +11,10 @@ use Rattle.parts.specs.declared.commands.Command.the-variants.{Wren, Wrd
 --  Part 3: READ 03h, WRITE 02h." READ and WRITE are compared but for the part's top address bit.
 unfoldable pub command : Codes → ℕ → Command
 command c code =
-    pick (eqb code (c .wren)) Wren
-    (pick (eqb code (c .wrdi)) Wrdi
-    (pick (eqb code (c .rdsr)) Rdsr
-    (pick (eqb code (c .wrsr)) Wrsr
-    (pick (eqb (bitOr code (c .top)) (bitOr (c .read) (c .top))) Read
-    (pick (eqb (bitOr code (c .top)) (bitOr (c .write) (c .top))) Write
+    cond (eqb code (c .wren)) Wren
+    (cond (eqb code (c .wrdi)) Wrdi
+    (cond (eqb code (c .rdsr)) Rdsr
+    (cond (eqb code (c .wrsr)) Wrsr
+    (cond (eqb (bitOr code (c .top)) (bitOr (c .read) (c .top))) Read
+    (cond (eqb (bitOr code (c .top)) (bitOr (c .write) (c .top))) Write
     Other)))))

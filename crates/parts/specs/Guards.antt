@@ -1,9 +1,8 @@
 -- "Who may write" (document 01). Assumes nothing.
 use Prim.Native.Nat.{ℕ, _/_, _^_}
-use mathlib.Core.Bool.{Bool, true, false, not, _&&_}
+use mathlib.Core.Bool.{Bool, true, false, cond, not, _&&_}
 use lib.Dec.{eqb, leb}
 use lib.Bits.{bitAnd}
-use Rattle.parts.specs.Choice.{pick}
 use Rattle.parts.specs.declared.figures.Figure.{Figure}
 use Rattle.parts.specs.declared.guards.Reason.{Reason}
 use Rattle.parts.specs.declared.guards.Reason.the-variants.{LatchOff, Protect, Block}
@@ -23,23 +22,23 @@ blocks kept = bitAnd (kept / 2 ^ 2) 3
 -- "Blocks, by BP1 BP0: 00 none, 01 the upper quarter, 10 the upper half, 11 all." The first address that is guarded.
 unfoldable pub firstProtected : Figure → ℕ → ℕ
 firstProtected f kept =
-    pick (eqb (blocks kept) 0) (f .size)
-    (pick (eqb (blocks kept) 1) (f .quarter)
-    (pick (eqb (blocks kept) 2) (f .half)
+    cond (eqb (blocks kept) 0) (f .size)
+    (cond (eqb (blocks kept) 1) (f .quarter)
+    (cond (eqb (blocks kept) 2) (f .half)
     0))
 
 -- "The latch must be set. Parts 1 and 2: /WP low holds back the array and the status byte." And the blocks; "the
 --  lowest that applies is given".
 unfoldable pub mayStore : Figure → Bool → ℕ → Bool → ℕ → Verdict
 mayStore f latch kept wp at =
-    pick (not latch) (HeldBack LatchOff)
-    (pick (f .«guards_array» && not wp) (HeldBack Protect)
-    (pick (leb (firstProtected f kept) at) (HeldBack Block)
+    cond (not latch) (HeldBack LatchOff)
+    (cond (f .«guards_array» && not wp) (HeldBack Protect)
+    (cond (leb (firstProtected f kept) at) (HeldBack Block)
     Allowed))
 
 -- "Part 3: /WP low with WPEN set holds back the status byte only." "Blocks don't guard the status byte."
 unfoldable pub mayKeep : Figure → Bool → ℕ → Bool → Verdict
 mayKeep f latch kept wp =
-    pick (not latch) (HeldBack LatchOff)
-    (pick (eqb (bitAnd kept (f .enable)) (f .enable) && not wp) (HeldBack Protect)
+    cond (not latch) (HeldBack LatchOff)
+    (cond (eqb (bitAnd kept (f .enable)) (f .enable) && not wp) (HeldBack Protect)
     Allowed)

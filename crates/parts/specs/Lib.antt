@@ -1,4 +1,3 @@
-pub mod Choice
 pub mod Figures
 pub mod Commands
 pub mod Guards

@@ -1,8 +1,7 @@
 -- Two tests joined by && hold exactly where both do; what holds of both sides of a choice holds of the choice.
 -- Assumes nothing.
 use mathlib.Core.Path.{_≡_, refl}
-use mathlib.Core.Bool.{Bool, true, false, _&&_}
-use Rattle.parts.specs.Choice.{pick}
+use mathlib.Core.Bool.{Bool, true, false, cond, _&&_}
 
 pub both : {a b : Bool} → a ≡ true → b ≡ true → (a && b) ≡ true
 both p q = rw (p, q)
@@ -15,6 +14,6 @@ pub right : (a b : Bool) → (a && b) ≡ true → b ≡ true
 right true b h = h
 right false b h = cc
 
-pub choose : {A : Type 0} (P : A → Type 0) (t : Bool) {a b : A} → P a → P b → P (pick t a b)
+pub choose : {A : Type 0} (P : A → Type 0) (t : Bool) {a b : A} → P a → P b → P (cond t a b)
 choose P true p q = p
 choose P false p q = q

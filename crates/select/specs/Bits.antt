@@ -1,9 +1,8 @@
 -- The bits of a byte, "most significant bit first". Assumes nothing.
 use Prim.Native.Nat.{ℕ, _+_, _*_, _/_, _%_, _^_}
-use mathlib.Core.Bool.{Bool, true, false}
+use mathlib.Core.Bool.{Bool, true, false, cond}
 use lib.Dec.{eqb, leb}
 use lib.Bits.{bitAnd, bitOr}
-use Rattle.parts.specs.Choice.{pick}
 use Rattle.select.specs.declared.stage.Shift.{Shift}
 use Rattle.select.specs.declared.bits.Taken.{Taken}
 use Rattle.select.specs.declared.bits.Taken.the-variants.{Part, Whole}
@@ -23,7 +22,7 @@ shifted byte si = bitOr (byte * 2 % 256) (lowBit si)
 -- the eighth bit makes the byte whole
 unfoldable pub takeBit : Shift → Bool → Taken
 takeBit shift si =
-    pick (leb 7 (shift .bits))
+    cond (leb 7 (shift .bits))
     (Whole (shifted (shift .byte) si))
     (Part (record { bits = shift .bits + 1; byte = shifted (shift .byte) si }))
 

@@ -1,12 +1,11 @@
 -- A seen fall of SCK: "Output moves on a seen fall of SCK once the header (op-code, and address for READ) is whole."
 -- Assumes nothing.
 use Prim.Native.Nat.{ℕ, _-_}
-use mathlib.Core.Bool.{Bool, true, false}
+use mathlib.Core.Bool.{Bool, true, false, cond}
 use mathlib.Core.List.{List}
 use lib.ListN.{getD}
 use lib.Dec.{eqb}
 use lib.Bits.{bitOr}
-use Rattle.parts.specs.Choice.{pick}
 use Rattle.parts.specs.declared.figures.Figure.{Figure}
 use Rattle.select.specs.Bits.{bitOf}
 use Rattle.select.specs.Address.{nextAddress}
@@ -19,7 +18,7 @@ use Rattle.select.specs.declared.stage.Stage.the-variants.{Closed, Code,
 
 -- "Status byte: bit 7 WPEN (part 3; 0 on parts 1 and 2), bits 3 and 2 BP1 and BP0, bit 1 the latch, the rest 0."
 abbrev pub statusByte : ℕ → Bool → ℕ
-statusByte kept latch = pick latch (bitOr kept 2) kept
+statusByte kept latch = cond latch (bitOr kept 2) kept
 
 abbrev pub byteShown : List ℕ → ℕ → Source → ℕ
 byteShown xs status (Array at) = getD xs at 0
@@ -43,7 +42,7 @@ fall f xs status (Upper upper) = Upper upper
 fall f xs status (Lower lower) = Lower lower
 fall f xs status (Ready source) = shows xs status source 7
 fall f xs status (Showing shown) =
-    pick (eqb (shown .bit) 0)
+    cond (eqb (shown .bit) 0)
     (afterByte f xs status (shown .source))
     (shows xs status (shown .source) (shown .bit - 1))
 fall f xs status (Writing w) = Writing w
@@ -57,7 +56,7 @@ stageLevel (Code shift) = Released
 stageLevel (Upper upper) = Released
 stageLevel (Lower lower) = Released
 stageLevel (Ready source) = Released
-stageLevel (Showing shown) = pick (shown .level) High Low
+stageLevel (Showing shown) = cond (shown .level) High Low
 stageLevel (Writing w) = Released
 stageLevel (Keeping shift) = Released
 stageLevel (Over whole) = Released

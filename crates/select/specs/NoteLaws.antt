@@ -2,9 +2,8 @@
 -- same. Assumes nothing.
 use Prim.Native.Nat.{ℕ}
 use mathlib.Core.Path.{_≡_, refl, sym, ap, _∙_}
-use mathlib.Core.Bool.{true, false}
+use mathlib.Core.Bool.{true, false, cond}
 use lib.Dec.{eqb}
-use Rattle.parts.specs.Choice.{pick}
 use Rattle.parts.specs.Guards.{reasonNumber}
 use Rattle.parts.specs.declared.guards.Reason.{Reason}
 use Rattle.parts.specs.declared.guards.Reason.the-variants.{LatchOff, Protect, Block}
@@ -15,7 +14,7 @@ use Rattle.select.specs.declared.notes.Note.{Note}
 use Rattle.select.specs.declared.notes.Note.the-variants.{Nothing, Latch, Stored, HeldBack, KeptSet, KeptHeldBack, PowerLost}
 
 levelOf : ℕ → Level
-levelOf n = pick (eqb n 0) Low (pick (eqb n 1) High Released)
+levelOf n = cond (eqb n 0) Low (cond (eqb n 1) High Released)
 
 level-back : (l : Level) → levelOf (levelNumber l) ≡ l
 unfolding levelOf
@@ -27,16 +26,16 @@ pub level-one : (a b : Level) → levelNumber a ≡ levelNumber b → a ≡ b
 level-one a b e = sym (level-back a) ∙ ap levelOf e ∙ level-back b
 
 reasonOf : ℕ → Reason
-reasonOf n = pick (eqb n 1) LatchOff (pick (eqb n 2) Protect Block)
+reasonOf n = cond (eqb n 1) LatchOff (cond (eqb n 2) Protect Block)
 
 noteOf : NoteNumbers → Note
 noteOf n =
-    pick (eqb (n .kind) 0) Nothing
-    (pick (eqb (n .kind) 1) (Latch (eqb (n .first) 1))
-    (pick (eqb (n .kind) 2) (Stored (n .first) (n .second))
-    (pick (eqb (n .kind) 3) (HeldBack (n .first) (reasonOf (n .second)))
-    (pick (eqb (n .kind) 4) (KeptSet (n .first))
-    (pick (eqb (n .kind) 5) (KeptHeldBack (reasonOf (n .first)))
+    cond (eqb (n .kind) 0) Nothing
+    (cond (eqb (n .kind) 1) (Latch (eqb (n .first) 1))
+    (cond (eqb (n .kind) 2) (Stored (n .first) (n .second))
+    (cond (eqb (n .kind) 3) (HeldBack (n .first) (reasonOf (n .second)))
+    (cond (eqb (n .kind) 4) (KeptSet (n .first))
+    (cond (eqb (n .kind) 5) (KeptHeldBack (reasonOf (n .first)))
     PowerLost)))))
 
 reason-back : (r : Reason) → reasonOf (reasonNumber r) ≡ r

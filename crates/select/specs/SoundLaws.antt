@@ -1,7 +1,7 @@
 -- A seen rise and a seen fall of SCK keep a stage sound, over any part's figures. Assumes nothing.
 use Prim.Native.Nat.{ℕ, _+_, _-_, _*_, _%_, _^_, _<_, _≤_, zero-le}
 use mathlib.Core.Path.{_≡_, refl, sym, _∙_}
-use mathlib.Core.Bool.{Bool, true, false, _&&_}
+use mathlib.Core.Bool.{Bool, true, false, cond, _&&_}
 use mathlib.Core.List.{List}
 use native.Mathlib.Nat.{lt-of-le-of-lt, lt-of-lt-of-le, mod-le, mod-lt, pow-suc, mul-lt-mul-of-pos-right}
 use native.Mathlib.Numerals.{add-one}
@@ -10,7 +10,6 @@ use borrow.Author.Tests.{lt-ltb, le-leb, ltb-true, leb-true, leb-false, eqb-true
 use lib.Bits.{bitAnd, or-lt, and-le-r}
 use lib.Dec.{eqb, leb, ltb, lit<, lit≤}
 use lib.Pow.{pow-mono}
-use Rattle.parts.specs.Choice.{pick}
 use Rattle.parts.specs.Commands.{command}
 use Rattle.parts.specs.FigureLaws.{Fair}
 use Rattle.parts.specs.MaskLaws.{under-twice}
@@ -64,7 +63,7 @@ take-sound shift si h = go (leb 7 (shift .bits)) refl
     small = ltb-true _ _ (right (ltb (shift .bits) 8) (ltb (shift .byte) (2 ^ (shift .bits))) h)
 
     go : (t : Bool) → leb 7 (shift .bits) ≡ t
-        → SoundTaken (pick t (Whole (shifted (shift .byte) si)) (Part (record { bits = shift .bits + 1; byte = shifted (shift .byte) si })))
+        → SoundTaken (cond t (Whole (shifted (shift .byte) si)) (Part (record { bits = shift .bits + 1; byte = shifted (shift .byte) si })))
     go true e = shifted-byte (shift .byte) si
     go false e =
         both (lt-ltb (shift .bits + 1) 8 (omega (arith, leb-false 7 (shift .bits) e)))
@@ -129,14 +128,14 @@ module _ (f : Figure) (fair : Fair f) where
   unfolding nextAddress
   next-sound at = go (leb (f .size) (at + 1)) refl
     where
-      go : (t : Bool) → leb (f .size) (at + 1) ≡ t → pick t 0 (at + 1) < f .size
+      go : (t : Bool) → leb (f .size) (at + 1) ≡ t → cond t 0 (at + 1) < f .size
       go true e = rw (fair .pages) (omega arith)
       go false e = leb-false (f .size) (at + 1) e
 
   code-page : (code : ℕ) → codePage f code ≤ f .upper
   code-page code = go (eqb (bitAnd code (f .codes .top)) 0)
     where
-      go : (t : Bool) → pick t 0 1 ≤ f .upper
+      go : (t : Bool) → cond t 0 1 ≤ f .upper
       go true = zero-le
       go false = fair .top
 
@@ -145,7 +144,7 @@ module _ (f : Figure) (fair : Fair f) where
   after-code write code = go (eqb (f .«address_bytes») 2) refl
     where
       go : (t : Bool) → eqb (f .«address_bytes») 2 ≡ t
-          → soundStage f (pick t (Upper (record { write = write; shift = fresh })) (Lower (record { write = write; page = codePage f code; shift = fresh }))) ≡ true
+          → soundStage f (cond t (Upper (record { write = write; shift = fresh })) (Lower (record { write = write; page = codePage f code; shift = fresh }))) ≡ true
       go true e = rw e
       go false e = rw (le-leb (codePage f code) (f .upper) (code-page code))
 
@@ -227,7 +226,7 @@ module _ (f : Figure) (fair : Fair f) where
   fall-sound xs status (Showing shown) h = go (eqb (shown .bit) 0)
     where
       go : (t : Bool)
-          → soundStage f (pick t (afterByte f xs status (shown .source)) (shows xs status (shown .source) (shown .bit - 1))) ≡ true
+          → soundStage f (cond t (afterByte f xs status (shown .source)) (shows xs status (shown .source) (shown .bit - 1))) ≡ true
       go true = after-byte xs status (shown .source)
       go false =
           both (lt-ltb (shown .bit - 1) 8 (omega (arith, ltb-true (shown .bit) 8 (left _ _ h))))

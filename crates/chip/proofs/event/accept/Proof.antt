@@ -1,3 +1,4 @@
+-- SO is the level of the new state.
 use borrow.Author.Needs.{needs}
 use Rattle.chip.proofs.event.accept.Statement.{statement}
 use Rattle.chip.proofs.event.accept.Tie as tie

@@ -1,3 +1,4 @@
+-- The tests come in the order of the refusals.
 use borrow.Author.Tests.{eq-eqb, le-leb, lt-leb, ne-eqb}
 use Rattle.chip.specs.Event.{checks}
 use borrow.Author.Needs.{needs}

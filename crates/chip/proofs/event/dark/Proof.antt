@@ -1,3 +1,4 @@
+-- By the one code that counts with power off.
 use borrow.Author.Tests.{ne-eqb}
 use borrow.Author.Needs.{needs}
 use Rattle.chip.proofs.event.dark.Statement.{statement}

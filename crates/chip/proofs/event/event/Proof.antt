@@ -1,3 +1,4 @@
+-- Refused: the answer is the refusal and nothing is stored. Else the step's answer, and the byte that its note stores.
 use mathlib.Core.Path.{sym, _∙_}
 use native.Mathlib.Nat.{lt-of-lt-of-le}
 use lib.Dec.{lit≤}

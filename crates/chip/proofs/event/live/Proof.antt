@@ -1,3 +1,4 @@
+-- One answer for each pin.
 use borrow.Author.Tests.{ne-eqb}
 use Rattle.chip.specs.Event.{live}
 use borrow.Author.Needs.{needs}

@@ -1,3 +1,4 @@
+-- With power on by pin and level, with power off by the code.
 use Rattle.chip.specs.Event.{step}
 use borrow.Author.Needs.{needs}
 use Rattle.chip.proofs.event.step.Statement.{statement}

@@ -1,3 +1,4 @@
+-- Case by case: one note stores, and past the array's end it changes nothing, as the definition does.
 use Rattle.chip.specs.Event.{written}
 use mathlib.Core.Path.{sym}
 use lib.Seq.{set-out}

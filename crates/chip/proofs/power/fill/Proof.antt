@@ -1,3 +1,4 @@
+-- Refused, the array stays; else it is filled.
 use borrow.Author.Tests.{eq-eqb, ne-eqb}
 use Rattle.chip.specs.Power.{filled}
 use borrow.Author.Needs.{needs}

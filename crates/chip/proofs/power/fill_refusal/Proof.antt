@@ -1,3 +1,4 @@
+-- The tests come in the order of the refusals.
 use borrow.Author.Tests.{eq-eqb, ne-eqb}
 use Rattle.chip.specs.Power.{fillRefusal}
 use borrow.Author.Needs.{needs}

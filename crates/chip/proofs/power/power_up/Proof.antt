@@ -1,3 +1,4 @@
+-- A part and kept bits that pass the checks fit a byte, so no cast loses anything.
 use mathlib.Core.Path.{sym, _∙_}
 use native.Mathlib.Nat.{lt-of-lt-of-le}
 use lib.Dec.{lit≤}

@@ -1,3 +1,4 @@
+-- Case by case.
 use Rattle.chip.specs.Sound.{isOff}
 use borrow.Author.Needs.{needs}
 use Rattle.chip.proofs.sound.is_off.Statement.{statement}

@@ -1,3 +1,4 @@
+-- Tests joined by & are the definition's conjunction.
 use Rattle.chip.specs.Sound.{rests}
 use borrow.Author.Needs.{needs}
 use Rattle.chip.proofs.sound.rests.Statement.{statement}

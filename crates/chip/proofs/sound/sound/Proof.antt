@@ -1,3 +1,4 @@
+-- Tests joined by & and | are the definition's.
 use Rattle.chip.specs.Sound.{sound}
 use borrow.Author.Needs.{needs}
 use Rattle.chip.proofs.sound.sound.Statement.{statement}

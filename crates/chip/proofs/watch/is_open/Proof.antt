@@ -1,3 +1,4 @@
+-- The stage is not closed.
 use Rattle.chip.specs.Watch.{isOpen}
 use borrow.Author.Needs.{needs}
 use Rattle.chip.proofs.watch.is_open.Statement.{statement}

@@ -1,3 +1,4 @@
+-- Each test that the code passes or fails is the test of the definition in the same place.
 use borrow.Author.Tests.{eq-eqb, ne-eqb}
 use Rattle.parts.specs.Commands.{command}
 use Rattle.parts.proofs.commands.decode.Statement.{statement}

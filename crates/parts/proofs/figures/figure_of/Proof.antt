@@ -1,3 +1,4 @@
+-- The table is the definition's list, entry by entry; past its end the row of no part stands in both.
 use mathlib.Core.Path.{refl, sym}
 use lib.ListN.{List·getD-eq-default}
 use Rattle.parts.specs.Figures.{figureOf, none, parts}

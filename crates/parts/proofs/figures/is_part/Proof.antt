@@ -1,3 +1,4 @@
+-- Two tests, the second only where the first holds, are their conjunction.
 use borrow.Author.Tests.{le-ltb, lt-ltb}
 use Rattle.parts.proofs.figures.is_part.Statement.{statement}
 use Rattle.parts.proofs.figures.is_part.Tie as tie

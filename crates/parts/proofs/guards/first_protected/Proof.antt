@@ -1,3 +1,4 @@
+-- One answer for each value of the block bits; the last holds where the three before it do not.
 use borrow.Author.Tests.{ne-eqb}
 use Rattle.parts.specs.Guards.{firstProtected}
 use Rattle.parts.proofs.guards.first_protected.Statement.{statement}

@@ -1,3 +1,4 @@
+-- The tests come in the order of the reasons, so the first that holds is the lowest.
 use Rattle.parts.specs.Guards.{mayKeep}
 use Rattle.parts.proofs.guards.may_keep.Statement.{statement}
 use Rattle.parts.proofs.guards.may_keep.Tie as tie

@@ -1,3 +1,4 @@
+-- The tests come in the order of the reasons, so the first that holds is the lowest.
 use borrow.Author.Tests.{le-leb, lt-leb}
 use Rattle.parts.specs.Guards.{mayStore}
 use borrow.Author.Needs.{needs}

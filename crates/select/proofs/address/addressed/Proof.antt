@@ -1,3 +1,4 @@
+-- The address is below 256 pages of 256 bytes, so it fits; WRITE and READ part after it.
 use Rattle.select.specs.Address.{afterAddress}
 use borrow.Author.Needs.{needs}
 use Rattle.select.proofs.address.addressed.Statement.{statement}

@@ -1,3 +1,4 @@
+-- The op-code under the mask of the top bit is 0 or not.
 use borrow.Author.Tests.{ne-eqb}
 use Rattle.select.proofs.address.code_page.Statement.{statement}
 use Rattle.select.proofs.address.code_page.Tie as tie

@@ -1,3 +1,4 @@
+-- By the number of address bytes.
 use borrow.Author.Tests.{ne-eqb}
 use Rattle.select.specs.Address.{afterCode}
 use borrow.Author.Needs.{needs}

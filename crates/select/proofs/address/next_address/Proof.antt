@@ -1,3 +1,4 @@
+-- An address at or past the last one rolls to 0; the code tests in two steps, so that no sum wraps.
 use native.Mathlib.Nat.{le-trans, le-add-right}
 use borrow.Author.Tests.{le-leb, lt-leb}
 use Rattle.select.specs.Address.{nextAddress}

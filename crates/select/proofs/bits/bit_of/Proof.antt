@@ -1,3 +1,4 @@
+-- Below bit 8 the code is the definition; from there on a byte has no bit left.
 use mathlib.Core.Path.{refl}
 use Rattle.select.proofs.Shifts.{beyond}
 use Rattle.select.specs.Bits.{bitOf}

@@ -1,3 +1,4 @@
+-- The eighth bit makes the byte whole; before it the count grows by one.
 use borrow.Author.Tests.{le-leb, lt-leb}
 use Rattle.select.specs.Bits.{takeBit}
 use borrow.Author.Needs.{needs}

@@ -1,3 +1,4 @@
+-- Case by case: only a WRITE or what is over can have had a whole data byte.
 use Rattle.select.specs.Close.{drops}
 use borrow.Author.Needs.{needs}
 use Rattle.select.proofs.close.drops.Statement.{statement}

@@ -1,3 +1,4 @@
+-- Case by case.
 use Rattle.select.specs.Close.{isClosed}
 use borrow.Author.Needs.{needs}
 use Rattle.select.proofs.close.is_closed.Statement.{statement}

@@ -1,3 +1,4 @@
+-- The array goes on with the next address, the status byte ends.
 use Rattle.select.specs.Fall.{afterByte}
 use borrow.Author.Needs.{needs}
 use Rattle.select.proofs.fall.after_byte.Statement.{statement}

@@ -1,3 +1,4 @@
+-- Within the array it is the byte there; past its end the definition reads 0 as the code does.
 use mathlib.Core.Path.{sym}
 use lib.ListN.{List·getD-eq-default}
 use borrow.Author.Needs.{needs}

@@ -1,3 +1,4 @@
+-- Case by case: only a whole header and a bit on SO move; the rest stays.
 use borrow.Author.Tests.{ne-eqb}
 use Rattle.select.specs.Fall.{fall}
 use borrow.Author.Needs.{needs}

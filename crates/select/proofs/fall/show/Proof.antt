@@ -1,3 +1,4 @@
+-- The byte and its bit are what the two calls say.
 use Rattle.select.specs.Fall.{shows}
 use borrow.Author.Needs.{needs}
 use Rattle.select.proofs.fall.show.Statement.{statement}

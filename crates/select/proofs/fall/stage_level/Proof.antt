@@ -1,3 +1,4 @@
+-- Case by case: only a stage that shows has a level.
 use Rattle.select.specs.Fall.{stageLevel}
 use borrow.Author.Needs.{needs}
 use Rattle.select.proofs.fall.stage_level.Statement.{statement}

@@ -1,3 +1,4 @@
+-- The latch sets bit 1.
 use borrow.Author.Needs.{needs}
 use Rattle.select.proofs.fall.status_byte.Statement.{statement}
 use Rattle.select.proofs.fall.status_byte.Tie as tie

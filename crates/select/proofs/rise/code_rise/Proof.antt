@@ -1,3 +1,4 @@
+-- A bit more, or the whole op-code.
 use Rattle.select.specs.Rise.{codeRise}
 use borrow.Author.Needs.{needs}
 use Rattle.select.proofs.rise.code_rise.Statement.{statement}

@@ -1,3 +1,4 @@
+-- A bit more, or the whole status byte, kept or held back.
 use Rattle.select.specs.Rise.{keepRise}
 use borrow.Author.Needs.{needs}
 use Rattle.select.proofs.rise.keep_rise.Statement.{statement}

@@ -1,3 +1,4 @@
+-- A bit more, or the whole address.
 use Rattle.select.specs.Rise.{lowerRise}
 use borrow.Author.Needs.{needs}
 use Rattle.select.proofs.rise.lower_rise.Statement.{statement}

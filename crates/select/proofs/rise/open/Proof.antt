@@ -1,3 +1,4 @@
+-- One answer for each command.
 use Rattle.select.specs.Rise.{opened}
 use borrow.Author.Needs.{needs}
 use Rattle.select.proofs.rise.open.Statement.{statement}

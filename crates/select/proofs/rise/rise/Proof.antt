@@ -1,3 +1,4 @@
+-- Case by case: a stage that takes bits has its own rise, the rest stays.
 use Rattle.select.specs.Rise.{rise}
 use borrow.Author.Needs.{needs}
 use Rattle.select.proofs.rise.rise.Statement.{statement}

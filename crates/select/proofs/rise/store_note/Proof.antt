@@ -1,3 +1,4 @@
+-- The note follows the verdict.
 use borrow.Author.Needs.{needs}
 use Rattle.select.proofs.rise.store_note.Statement.{statement}
 use Rattle.select.proofs.rise.store_note.Tie as tie

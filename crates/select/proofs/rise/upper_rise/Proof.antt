@@ -1,3 +1,4 @@
+-- A bit more, or the whole upper byte less the bits that are ignored.
 use Rattle.select.specs.Rise.{upperRise}
 use borrow.Author.Needs.{needs}
 use Rattle.select.proofs.rise.upper_rise.Statement.{statement}

@@ -1,3 +1,4 @@
+-- A bit more, or a whole byte: its note by the verdict, and the next address in either case.
 use Rattle.select.specs.Rise.{writeRise}
 use borrow.Author.Needs.{needs}
 use Rattle.select.proofs.rise.write_rise.Statement.{statement}

@@ -1,3 +1,4 @@
+-- Nothing is left of the byte above its bits exactly where it is below 2 ^ bits.
 use borrow.Author.Tests.{le-ltb, lt-ltb}
 use Rattle.select.proofs.Shifts.{clear-above}
 use Rattle.select.specs.Sound.{soundShift}

@@ -1,3 +1,4 @@
+-- An address is tested, the status byte passes.
 use borrow.Author.Needs.{needs}
 use Rattle.select.proofs.sound.sound_source.Statement.{statement}
 use Rattle.select.proofs.sound.sound_source.Tie as tie

@@ -1,3 +1,4 @@
+-- Case by case; tests joined by & are the definition's conjunctions.
 use Rattle.select.specs.Sound.{soundStage}
 use borrow.Author.Needs.{needs}
 use Rattle.select.proofs.sound.sound_stage.Statement.{statement}

@@ -1,3 +1,4 @@
+-- In hold the level is kept; else it shows whether a select is open.
 use Rattle.chip.specs.Lines.{csLevel}
 use borrow.Author.Needs.{needs}
 use Rattle.chip.proofs.state.State.cs.Statement.{statement}

@@ -1,3 +1,4 @@
+-- Seen, a select opens; in hold only the level moves.
 use Rattle.chip.specs.Edges.{csFall}
 use borrow.Author.Needs.{needs}
 use Rattle.chip.proofs.state.State.cs_fall.Statement.{statement}

@@ -1,3 +1,4 @@
+-- Seen, the select closes and the latch may drop; in hold only the level moves.
 use Rattle.chip.specs.Edges.{csRise}
 use borrow.Author.Needs.{needs}
 use Rattle.chip.proofs.state.State.cs_rise.Statement.{statement}

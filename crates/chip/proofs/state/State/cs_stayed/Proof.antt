@@ -1,3 +1,4 @@
+-- By whether a select is open.
 use Rattle.chip.specs.Event.{csStayed}
 use borrow.Author.Needs.{needs}
 use Rattle.chip.proofs.state.State.cs_stayed.Statement.{statement}

@@ -1,3 +1,4 @@
+-- The level asked for, and the level that is there: two of the four ways move nothing.
 use borrow.Author.Needs.{needs}
 use Rattle.chip.proofs.state.State.cs_to.Statement.{statement}
 use Rattle.chip.proofs.state.State.cs_to.Tie as tie

@@ -1,3 +1,4 @@
+-- The off state, with the note.
 use Rattle.chip.specs.Edges.{cut}
 use borrow.Author.Needs.{needs}
 use Rattle.chip.proofs.state.State.cut.Statement.{statement}

@@ -1,3 +1,4 @@
+-- The level of /CS shows whether a select is open.
 use Rattle.chip.specs.Edges.{holdFall}
 use borrow.Author.Needs.{needs}
 use Rattle.chip.proofs.state.State.hold_fall.Statement.{statement}

@@ -1,3 +1,4 @@
+-- One line moves.
 use mathlib.Core.Path.{refl}
 use Rattle.chip.specs.Edges.{holdRise}
 use Rattle.chip.proofs.state.State.hold_rise.Statement.{statement}

@@ -1,3 +1,4 @@
+-- A level that is there; SCK high; /CS moved: in this order.
 use borrow.Author.Needs.{needs}
 use Rattle.chip.proofs.state.State.hold_to.Statement.{statement}
 use Rattle.chip.proofs.state.State.hold_to.Tie as tie

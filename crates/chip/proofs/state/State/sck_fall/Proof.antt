@@ -1,3 +1,4 @@
+-- Seen, the output moves; in hold only the level does.
 use Rattle.chip.specs.Edges.{sckFall}
 use borrow.Author.Needs.{needs}
 use Rattle.chip.proofs.state.State.sck_fall.Statement.{statement}

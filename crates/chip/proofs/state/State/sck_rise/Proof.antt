@@ -1,3 +1,4 @@
+-- Seen, the select takes the bit; in hold only the level moves.
 use Rattle.chip.specs.Edges.{sckRise}
 use borrow.Author.Needs.{needs}
 use Rattle.chip.proofs.state.State.sck_rise.Statement.{statement}

@@ -1,3 +1,4 @@
+-- In hold released; else what the stage shows.
 use Rattle.chip.specs.Lines.{soLevel}
 use borrow.Author.Needs.{needs}
 use Rattle.chip.proofs.state.State.so.Statement.{statement}

@@ -1,3 +1,4 @@
+-- The level that is there, or the cut.
 use borrow.Author.Needs.{needs}
 use Rattle.chip.proofs.state.State.vdd_to.Statement.{statement}
 use Rattle.chip.proofs.state.State.vdd_to.Tie as tie
