@@ -4,15 +4,15 @@ use Prim.Native.Nat.{ℕ}
 use mathlib.Core.Bool.{Bool, true, false, cond, _&&_}
 use mathlib.Core.List.{List}
 use Rattle.parts.specs.declared.figures.Figure.{Figure}
-use Rattle.select.specs.Bits.{fresh}
-use Rattle.select.specs.Close.{isClosed, drops}
+use Rattle.stages.specs.Bits.{fresh}
+use Rattle.stages.specs.Close.{isClosed, drops}
 use Rattle.select.specs.Fall.{fall, statusByte}
 use Rattle.select.specs.Rise.{rise}
 use Rattle.select.specs.declared.notes.Note.the-variants.{Nothing, Latch, PowerLost}
 use Rattle.select.specs.declared.rise.Seen.{Seen}
 use Rattle.select.specs.declared.rise.Risen.{Risen}
-use Rattle.select.specs.declared.stage.Stage.{Stage}
-use Rattle.select.specs.declared.stage.Stage.the-variants.{Closed, Code}
+use Rattle.stages.specs.declared.stage.Stage.{Stage}
+use Rattle.stages.specs.declared.stage.Stage.the-variants.{Closed, Code}
 use Rattle.chip.specs.Lines.{atRest}
 use Rattle.chip.specs.declared.state.Hold.{Hold}
 use Rattle.chip.specs.declared.state.Hold.the-variants.{Off, On}

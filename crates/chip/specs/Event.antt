@@ -1,14 +1,12 @@
 -- One event, and the refusals (document 01, "Refusals and their order"). Assumes nothing.
 use Prim.Native.Nat.{ℕ, _/_, _%_}
-use mathlib.Core.Bool.{Bool, true, false, cond, not, _&&_}
+use mathlib.Core.Bool.{Bool, true, false, cond, not}
 use mathlib.Core.List.{List}
 use lib.ListN.{length, set}
-use lib.Dec.{eqb, leb, ltb}
-use lib.Bits.{bitAnd}
-use Rattle.parts.specs.Figures.{figureOf, isPart}
+use lib.Dec.{eqb, leb}
+use Rattle.parts.specs.Figures.{figureOf}
 use Rattle.parts.specs.declared.figures.Figure.{Figure}
-use Rattle.parts.specs.declared.guards.Reason.{Reason}
-use Rattle.select.specs.Close.{isClosed}
+use Rattle.stages.specs.Close.{isClosed}
 use Rattle.select.specs.declared.notes.Level.the-variants.{Released}
 use Rattle.select.specs.declared.notes.Note.{Note}
 use Rattle.select.specs.declared.notes.Note.the-variants.{Nothing, Latch, Stored, HeldBack, KeptSet, KeptHeldBack, PowerLost}

@@ -1,22 +1,20 @@
 -- Document 01's starred examples, computed from the definitions that the event call's promise cites: one list, one
 -- proof. Assumes nothing.
 use Prim.Native.Nat.{ℕ, _+_, _*_, _/_, _%_, _^_}
-use mathlib.Core.Path.{refl}
 use mathlib.Core.Bool.{Bool, true, false, cond, _&&_}
 use mathlib.Core.List.{List, [], _∷_, _++_}
-use lib.ListN.{length, getD, set, take, replicate}
-use lib.Bits.{bitAnd, bitOr}
-use lib.Dec.{T, eqb, leb, ltb}
+use lib.ListN.{set, take, replicate}
+use lib.Dec.{T, eqb}
 use Rattle.parts.specs.Figures.{figureOf}
 use Rattle.parts.specs.Commands.{command}
 use Rattle.parts.specs.Guards.{firstProtected, mayStore, mayKeep}
-use Rattle.select.specs.Address.{afterCode, afterAddress, nextAddress}
-use Rattle.select.specs.Bits.{takeBit, bitOf}
-use Rattle.select.specs.Close.{isClosed, drops}
+use Rattle.stages.specs.Address.{afterCode, afterAddress, nextAddress}
+use Rattle.stages.specs.Bits.{takeBit, bitOf}
+use Rattle.stages.specs.Close.{isClosed, drops}
 use Rattle.select.specs.Fall.{shows, afterByte, fall, stageLevel}
 use Rattle.select.specs.Notes.{NoteNumbers, levelNumber, noteNumbers}
 use Rattle.select.specs.Rise.{opened, codeRise, upperRise, lowerRise, writeRise, keepRise, rise}
-use Rattle.select.specs.Sound.{soundShift, soundStage}
+use Rattle.stages.specs.Sound.{soundShift, soundStage}
 use Rattle.chip.specs.Edges.{csFall, csRise, sckRise, sckFall, holdFall, holdRise, cut}
 use Rattle.chip.specs.Event.{csStayed, live, step, checks, event, written}
 use Rattle.chip.specs.Lines.{atRest, csLevel, soLevel}

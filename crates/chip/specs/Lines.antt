@@ -1,12 +1,12 @@
 -- "Lines and events" (document 01). Assumes nothing.
 use Prim.Native.Nat.{ℕ}
 use mathlib.Core.Bool.{Bool, true, false}
-use Rattle.select.specs.Close.{isClosed}
+use Rattle.stages.specs.Close.{isClosed}
 use Rattle.select.specs.Fall.{stageLevel}
 use Rattle.select.specs.declared.notes.Level.{Level}
 use Rattle.select.specs.declared.notes.Level.the-variants.{Released}
-use Rattle.select.specs.declared.stage.Stage.{Stage}
-use Rattle.select.specs.declared.stage.Stage.the-variants.{Closed}
+use Rattle.stages.specs.declared.stage.Stage.{Stage}
+use Rattle.stages.specs.declared.stage.Stage.the-variants.{Closed}
 use Rattle.chip.specs.declared.state.Hold.{Hold}
 use Rattle.chip.specs.declared.state.Hold.the-variants.{Off, On}
 use Rattle.chip.specs.declared.state.State.{State}

@@ -5,7 +5,7 @@ use mathlib.Core.Bool.{Bool, true, false, cond, not}
 use native.Mathlib.Nat.{lt-of-le-of-lt}
 use borrow.Author.Tests.{eqb-false, eqb-true, ltb-true}
 use lib.Bits.{bitAnd, and-le-r}
-use lib.Dec.{eqb, ltb}
+use lib.Dec.{ltb}
 use Rattle.parts.specs.Figures.{figureOf, isPart}
 use Rattle.parts.specs.FigureLaws.{fair}
 use Rattle.parts.specs.TestLaws.{right}

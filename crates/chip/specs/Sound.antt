@@ -6,8 +6,8 @@ use mathlib.Core.Bool.{Bool, true, false, not, _&&_, _||_}
 use lib.Dec.{eqb}
 use lib.Bits.{bitAnd}
 use Rattle.parts.specs.Figures.{figureOf, isPart}
-use Rattle.select.specs.Close.{isClosed}
-use Rattle.select.specs.Sound.{soundStage}
+use Rattle.stages.specs.Close.{isClosed}
+use Rattle.stages.specs.Sound.{soundStage}
 use Rattle.chip.specs.declared.state.Hold.{Hold}
 use Rattle.chip.specs.declared.state.Hold.the-variants.{Off, On}
 use Rattle.chip.specs.declared.state.State.{State}

@@ -6,19 +6,16 @@ use mathlib.Core.Bool.{Bool, true, false, cond, _&&_, _||_}
 use mathlib.Core.List.{List}
 use borrow.Author.Tests.{eqb-true, eq-eqb}
 use lib.ListN.{length}
-use lib.Bits.{bitAnd}
 use lib.Dec.{eqb}
 use Rattle.parts.specs.FigureLaws.{fair}
 use Rattle.parts.specs.Figures.{figureOf, isPart}
 use Rattle.parts.specs.TestLaws.{both, left, right, choose}
-use Rattle.parts.specs.declared.figures.Figure.{Figure}
-use Rattle.select.specs.Close.{isClosed, drops}
+use Rattle.stages.specs.Close.{isClosed, drops}
 use Rattle.select.specs.Fall.{statusByte}
-use Rattle.select.specs.Sound.{soundStage, soundShift}
+use Rattle.stages.specs.Sound.{soundStage, soundShift}
 use Rattle.select.specs.SoundLaws.{rise-sound, rise-masked, fall-sound}
-use Rattle.select.specs.declared.stage.Stage.{Stage}
 use Rattle.chip.specs.Edges.{seenBy, csFall, csRise, csRiseIn, csFallIn, sckRise, sckRiseIn, sckFall, sckFallIn, holdFall, holdRise, cut}
-use Rattle.chip.specs.Event.{accepted, refused, csTo, sckTo, holdTo, csStayed, vddTo, live, dark, step, checks, event}
+use Rattle.chip.specs.Event.{csTo, sckTo, holdTo, csStayed, vddTo, live, dark, step, checks, event}
 use Rattle.chip.specs.Lines.{atRest, csLevel}
 use Rattle.chip.specs.Power.{powerRefusal, powerUp}
 use Rattle.chip.specs.PowerLaws.{power-passed}

@@ -2,7 +2,7 @@
 use Prim.Native.Nat.{ℕ}
 use mathlib.Core.Bool.{Bool, not, _&&_}
 use lib.Dec.{eqb}
-use Rattle.select.specs.Close.{isClosed}
+use Rattle.stages.specs.Close.{isClosed}
 use Rattle.chip.specs.Sound.{isOff}
 use Rattle.chip.specs.declared.state.State.{State}
 

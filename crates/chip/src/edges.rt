@@ -5,15 +5,15 @@ use crate::state::Hold;
 use crate::state::Moved;
 use crate::state::State;
 use parts::figures::Figure;
-use select::bits::no_bits;
-use select::close::drops;
-use select::close::is_closed;
 use select::fall::fall;
 use select::fall::status_byte;
 use select::notes::Note;
 use select::rise::Seen;
 use select::rise::rise;
-use select::stage::Stage;
+use stages::bits::no_bits;
+use stages::close::drops;
+use stages::close::is_closed;
+use stages::stage::Stage;
 
 impl State {
     // No effect.

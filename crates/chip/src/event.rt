@@ -8,9 +8,9 @@ use crate::state::Moved;
 use crate::state::State;
 use parts::figures::Figure;
 use parts::figures::figure_of;
-use select::close::is_closed;
 use select::notes::Level;
 use select::notes::Note;
+use stages::close::is_closed;
 
 // The answer to an event.
 pub struct Answer {

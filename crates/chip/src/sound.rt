@@ -5,8 +5,8 @@ use crate::state::Hold;
 use crate::state::State;
 use parts::figures::figure_of;
 use parts::figures::is_part;
-use select::close::is_closed;
-use select::sound::sound_stage;
+use stages::close::is_closed;
+use stages::sound::sound_stage;
 
 // Whether /HOLD is high.
 pub fn is_off(hold: Hold) -> bool

@@ -1,11 +1,11 @@
 // The chip's state. It goes in by value and comes back by value.
 ghost use mathlib.Core.Path.{_≡_};
 ghost use Rattle.chip.specs.Lines.{atRest, csLevel, soLevel};
-use select::close::is_closed;
 use select::fall::stage_level;
 use select::notes::Level;
 use select::notes::Note;
-use select::stage::Stage;
+use stages::close::is_closed;
+use stages::stage::Stage;
 
 // /HOLD high, or low with the level of /CS, which is not seen then.
 pub enum Hold {

@@ -3,7 +3,7 @@ ghost use mathlib.Core.Path.{_≡_};
 ghost use Rattle.chip.specs.Watch.{isOpen, seesRise};
 use crate::sound::is_off;
 use crate::state::State;
-use select::close::is_closed;
+use stages::close::is_closed;
 
 // Whether a select is open.
 pub fn is_open(s: State) -> bool

@@ -1,6 +1,6 @@
 -- "Who may write" (document 01). Assumes nothing.
 use Prim.Native.Nat.{ℕ, _/_, _^_}
-use mathlib.Core.Bool.{Bool, true, false, cond, not, _&&_}
+use mathlib.Core.Bool.{Bool, cond, not, _&&_}
 use lib.Dec.{eqb, leb}
 use lib.Bits.{bitAnd}
 use Rattle.parts.specs.declared.figures.Figure.{Figure}

@@ -1,6 +1,6 @@
 -- Under a mask once is under it twice: by induction on the mask's bits, half by half. Assumes nothing.
 use Prim.Native.Nat.{ℕ, zero, suc, _+_, _*_, _/_, _%_, _^_, _<_, min}
-use mathlib.Core.Path.{_≡_, refl, sym, ap, _∙_}
+use mathlib.Core.Path.{_≡_, sym, ap, _∙_}
 use native.Mathlib.Nat.{pow-suc, div-lt-iff-lt-mul, min-eq-left, min-le-right, mod-lt, lt-of-le-of-lt}
 use native.Mathlib.Omega.{arith}
 use lib.Bits.{bitAnd, and-step, and-zero-r}

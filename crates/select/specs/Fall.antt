@@ -1,20 +1,20 @@
 -- A seen fall of SCK: "Output moves on a seen fall of SCK once the header (op-code, and address for READ) is whole."
 -- Assumes nothing.
 use Prim.Native.Nat.{ℕ, _-_}
-use mathlib.Core.Bool.{Bool, true, false, cond}
+use mathlib.Core.Bool.{Bool, false, cond}
 use mathlib.Core.List.{List}
 use lib.ListN.{getD}
 use lib.Dec.{eqb}
 use lib.Bits.{bitOr}
 use Rattle.parts.specs.declared.figures.Figure.{Figure}
-use Rattle.select.specs.Bits.{bitOf}
-use Rattle.select.specs.Address.{nextAddress}
+use Rattle.stages.specs.Bits.{bitOf}
+use Rattle.stages.specs.Address.{nextAddress}
 use Rattle.select.specs.declared.notes.Level.{Level}
 use Rattle.select.specs.declared.notes.Level.the-variants.{Low, High, Released}
-use Rattle.select.specs.declared.stage.Source.{Source}
-use Rattle.select.specs.declared.stage.Source.the-variants.{Array, Status}
-use Rattle.select.specs.declared.stage.Stage.{Stage}
-use Rattle.select.specs.declared.stage.Stage.the-variants.{Closed, Code, Upper, Lower, Ready, Showing, Writing, Keeping, Over}
+use Rattle.stages.specs.declared.stage.Source.{Source}
+use Rattle.stages.specs.declared.stage.Source.the-variants.{Array, Status}
+use Rattle.stages.specs.declared.stage.Stage.{Stage}
+use Rattle.stages.specs.declared.stage.Stage.the-variants.{Closed, Code, Upper, Lower, Ready, Showing, Writing, Keeping, Over}
 
 -- "Status byte: bit 7 WPEN (part 3; 0 on parts 1 and 2), bits 3 and 2 BP1 and BP0, bit 1 the latch, the rest 0."
 abbrev pub statusByte : ℕ → Bool → ℕ

@@ -1,9 +1,5 @@
 pub mod Notes
-pub mod Bits
-pub mod Address
 pub mod Rise
 pub mod Fall
-pub mod Close
-pub mod Sound
 pub mod NoteLaws
 pub mod SoundLaws

@@ -8,19 +8,19 @@ use Rattle.parts.specs.declared.figures.Figure.{Figure}
 use Rattle.parts.specs.declared.commands.Command.{Command}
 use Rattle.parts.specs.declared.commands.Command.the-variants.{Wren, Wrdi, Rdsr, Wrsr, Read, Write, Other}
 use Rattle.parts.specs.declared.guards.Verdict as verdict
-use Rattle.select.specs.Bits.{fresh, takeBit}
-use Rattle.select.specs.Address.{afterCode, upperPage, afterAddress, nextAddress}
+use Rattle.stages.specs.Bits.{fresh, takeBit}
+use Rattle.stages.specs.Address.{afterCode, upperPage, afterAddress, nextAddress}
 use Rattle.select.specs.declared.notes.Note.{Note}
 use Rattle.select.specs.declared.notes.Note.the-variants.{Nothing, Latch, Stored, HeldBack, KeptSet, KeptHeldBack}
-use Rattle.select.specs.declared.bits.Taken.{Taken}
-use Rattle.select.specs.declared.bits.Taken.the-variants.{Part, Whole}
-use Rattle.select.specs.declared.stage.Shift.{Shift}
-use Rattle.select.specs.declared.stage.UpperByte.{UpperByte}
-use Rattle.select.specs.declared.stage.LowerByte.{LowerByte}
-use Rattle.select.specs.declared.stage.Writer.{Writer}
-use Rattle.select.specs.declared.stage.Source.the-variants.{Status}
-use Rattle.select.specs.declared.stage.Stage.{Stage}
-use Rattle.select.specs.declared.stage.Stage.the-variants.{Closed, Code, Upper, Lower, Ready, Showing, Writing, Keeping, Over}
+use Rattle.stages.specs.declared.bits.Taken.{Taken}
+use Rattle.stages.specs.declared.bits.Taken.the-variants.{Part, Whole}
+use Rattle.stages.specs.declared.stage.Shift.{Shift}
+use Rattle.stages.specs.declared.stage.UpperByte.{UpperByte}
+use Rattle.stages.specs.declared.stage.LowerByte.{LowerByte}
+use Rattle.stages.specs.declared.stage.Writer.{Writer}
+use Rattle.stages.specs.declared.stage.Source.the-variants.{Status}
+use Rattle.stages.specs.declared.stage.Stage.{Stage}
+use Rattle.stages.specs.declared.stage.Stage.the-variants.{Closed, Code, Upper, Lower, Ready, Showing, Writing, Keeping, Over}
 use Rattle.select.specs.declared.rise.Seen.{Seen}
 use Rattle.select.specs.declared.rise.Risen.{Risen}
 

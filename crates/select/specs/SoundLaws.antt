@@ -1,15 +1,12 @@
 -- A seen rise and a seen fall of SCK keep a stage sound, over any part's figures. Assumes nothing.
-use Prim.Native.Nat.{ℕ, _+_, _-_, _*_, _%_, _^_, _<_, _≤_, zero-le}
-use mathlib.Core.Path.{_≡_, refl, sym, _∙_}
-use mathlib.Core.Bool.{Bool, true, false, cond, _&&_}
+use Prim.Native.Nat.{ℕ, _-_}
+use mathlib.Core.Path.{_≡_, refl}
+use mathlib.Core.Bool.{Bool, true, false, cond}
 use mathlib.Core.List.{List}
-use native.Mathlib.Nat.{lt-of-le-of-lt, lt-of-lt-of-le, mod-le, mod-lt, pow-suc, mul-lt-mul-of-pos-right}
-use native.Mathlib.Numerals.{add-one}
 use native.Mathlib.Omega.{arith}
-use borrow.Author.Tests.{lt-ltb, le-leb, ltb-true, leb-true, leb-false, eqb-true}
-use lib.Bits.{bitAnd, or-lt, and-le-r}
-use lib.Dec.{eqb, leb, ltb, lit<, lit≤}
-use lib.Pow.{pow-mono}
+use borrow.Author.Tests.{lt-ltb, le-leb, ltb-true, leb-true}
+use lib.Bits.{bitAnd, and-le-r}
+use lib.Dec.{eqb, leb, ltb}
 use Rattle.parts.specs.Commands.{command}
 use Rattle.parts.specs.FigureLaws.{Fair}
 use Rattle.parts.specs.MaskLaws.{under-twice}
@@ -19,55 +16,20 @@ use Rattle.parts.specs.declared.commands.Command.{Command}
 use Rattle.parts.specs.declared.commands.Command.the-variants.{Wren, Wrdi, Rdsr, Wrsr, Read, Write, Other}
 use Rattle.parts.specs.Guards.{mayKeep}
 use Rattle.parts.specs.declared.guards.Verdict as verdict
-use Rattle.select.specs.Address.{codePage, upperPage, afterCode, afterAddress, nextAddress}
-use Rattle.select.specs.Bits.{fresh, lowBit, shifted, takeBit}
+use Rattle.stages.specs.Address.{upperPage}
+use Rattle.stages.specs.Bits.{takeBit}
 use Rattle.select.specs.Fall.{shows, afterByte, fall}
 use Rattle.select.specs.Rise.{begun, opened, codeTaken, codeRise, upperTaken, upperRise, lowerTaken, lowerRise, writeTaken, writeRise, keptBy, keepTaken, keepRise, rise}
-use Rattle.select.specs.Sound.{soundShift, soundSource, soundStage}
-use Rattle.select.specs.declared.stage.Shift.{Shift}
-use Rattle.select.specs.declared.stage.Source.{Source}
-use Rattle.select.specs.declared.stage.Source.the-variants.{Array, Status}
-use Rattle.select.specs.declared.stage.Writer.{Writer}
-use Rattle.select.specs.declared.stage.Stage.{Stage}
-use Rattle.select.specs.declared.stage.Stage.the-variants.{Closed, Code, Upper, Lower, Ready, Showing, Writing, Keeping, Over}
+use Rattle.stages.specs.SoundLaws.{SoundTaken, take-sound, next-sound, after-code, after-address}
+use Rattle.stages.specs.Sound.{soundShift, soundStage}
+use Rattle.stages.specs.declared.stage.Source.{Source}
+use Rattle.stages.specs.declared.stage.Source.the-variants.{Array, Status}
+use Rattle.stages.specs.declared.stage.Writer.{Writer}
+use Rattle.stages.specs.declared.stage.Stage.{Stage}
+use Rattle.stages.specs.declared.stage.Stage.the-variants.{Closed, Code, Upper, Lower, Ready, Showing, Writing, Keeping, Over}
 use Rattle.select.specs.declared.rise.Seen.{Seen}
-use Rattle.select.specs.declared.bits.Taken.{Taken}
-use Rattle.select.specs.declared.bits.Taken.the-variants.{Part, Whole}
-
--- a byte's bits that came so far are sound, and a whole byte is a byte
-abbrev pub SoundTaken : Taken → Type 0
-SoundTaken (Part more) = soundShift more ≡ true
-SoundTaken (Whole byte) = byte < 2 ^ 8
-
-low-small : (si : Bool) → lowBit si < 2 ^ 1
-low-small false = lit< tt
-low-small true = lit< tt
-
-doubled : (bits : ℕ) {byte : ℕ} → byte < 2 ^ bits → byte * 2 < 2 ^ (bits + 1)
-doubled bits h = rw (add-one bits, pow-suc 2 bits) (mul-lt-mul-of-pos-right h (lit< tt))
-
-shifted-small : (bits byte : ℕ) (si : Bool) → byte < 2 ^ bits → shifted byte si < 2 ^ (bits + 1)
-shifted-small bits byte si h =
-    or-lt (bits + 1) (byte * 2 % 256) (lowBit si)
-    (lt-of-le-of-lt (mod-le (byte * 2) 256) (doubled bits h))
-    (lt-of-lt-of-le (low-small si) (pow-mono {i = 1} {j = bits + 1} (omega arith)))
-
-shifted-byte : (byte : ℕ) (si : Bool) → shifted byte si < 2 ^ 8
-shifted-byte byte si = or-lt 8 (byte * 2 % 256) (lowBit si) (mod-lt (byte * 2) (lit< tt)) (lt-of-lt-of-le (low-small si) (lit≤ tt))
-
-pub take-sound : (shift : Shift) (si : Bool) → soundShift shift ≡ true → SoundTaken (takeBit shift si)
-unfolding takeBit soundShift
-take-sound shift si h = go (leb 7 (shift .bits)) refl
-  where
-    small : shift .byte < 2 ^ (shift .bits)
-    small = ltb-true _ _ (right (ltb (shift .bits) 8) (ltb (shift .byte) (2 ^ (shift .bits))) h)
-
-    go : (t : Bool) → leb 7 (shift .bits) ≡ t
-        → SoundTaken (cond t (Whole (shifted (shift .byte) si)) (Part (record { bits = shift .bits + 1; byte = shifted (shift .byte) si })))
-    go true e = shifted-byte (shift .byte) si
-    go false e =
-        both (lt-ltb (shift .bits + 1) 8 (omega (arith, leb-false 7 (shift .bits) e)))
-        (lt-ltb _ _ (shifted-small (shift .bits) (shift .byte) si small))
+use Rattle.stages.specs.declared.bits.Taken.{Taken}
+use Rattle.stages.specs.declared.bits.Taken.the-variants.{Part, Whole}
 
 module _ (f : Figure) (fair : Fair f) where
   -- the kept bits stay under the mask
@@ -120,47 +82,14 @@ module _ (f : Figure) (fair : Fair f) where
   rise-masked seen (Keeping shift) h = keep-masked seen (takeBit shift (seen .si)) h
   rise-masked seen (Over whole) h = h
 
-  -- an address within the pages is within the array
-  paged : {page byte : ℕ} → page ≤ f .upper → byte < 2 ^ 8 → page * 256 + byte < f .size
-  paged p h = rw (fair .pages) (omega arith)
-
-  next-sound : (at : ℕ) → nextAddress f at < f .size
-  unfolding nextAddress
-  next-sound at = go (leb (f .size) (at + 1)) refl
-    where
-      go : (t : Bool) → leb (f .size) (at + 1) ≡ t → cond t 0 (at + 1) < f .size
-      go true e = rw (fair .pages) (omega arith)
-      go false e = leb-false (f .size) (at + 1) e
-
-  code-page : (code : ℕ) → codePage f code ≤ f .upper
-  code-page code = go (eqb (bitAnd code (f .codes .top)) 0)
-    where
-      go : (t : Bool) → cond t 0 1 ≤ f .upper
-      go true = zero-le
-      go false = fair .top
-
-  after-code : (write : Bool) (code : ℕ) → soundStage f (afterCode f write code) ≡ true
-  unfolding afterCode soundStage soundShift
-  after-code write code = go (eqb (f .«address_bytes») 2) refl
-    where
-      go : (t : Bool) → eqb (f .«address_bytes») 2 ≡ t
-          → soundStage f (cond t (Upper (record { write = write; shift = fresh })) (Lower (record { write = write; page = codePage f code; shift = fresh }))) ≡ true
-      go true e = rw e
-      go false e = rw (le-leb (codePage f code) (f .upper) (code-page code))
-
-  after-address : (write : Bool) {page byte : ℕ} → page ≤ f .upper → byte < 2 ^ 8 → soundStage f (afterAddress write page byte) ≡ true
-  unfolding afterAddress soundStage soundShift
-  after-address true p h = rw (lt-ltb _ _ (paged p h))
-  after-address false p h = lt-ltb _ _ (paged p h)
-
   begun-sound : (seen : Seen) (code : ℕ) (c : Command) → soundStage f (begun f seen code c .stage) ≡ true
   unfolding soundStage soundShift
   begun-sound seen code Wren = refl
   begun-sound seen code Wrdi = refl
   begun-sound seen code Rdsr = refl
   begun-sound seen code Wrsr = refl
-  begun-sound seen code Read = after-code false code
-  begun-sound seen code Write = after-code true code
+  begun-sound seen code Read = after-code f fair false code
+  begun-sound seen code Write = after-code f fair true code
   begun-sound seen code Other = refl
 
   code-sound : (seen : Seen) (t : Taken) → SoundTaken t → soundStage f (codeTaken f seen t .stage) ≡ true
@@ -178,13 +107,13 @@ module _ (f : Figure) (fair : Fair f) where
       → soundStage f (lowerTaken seen write page t .stage) ≡ true
   unfolding soundStage
   lower-sound seen write page (Part more) p h = both p h
-  lower-sound seen write page (Whole byte) p h = after-address write (leb-true page (f .upper) p) h
+  lower-sound seen write page (Whole byte) p h = after-address f fair write (leb-true page (f .upper) p) h
 
   write-sound : (seen : Seen) (w : Writer) (t : Taken) → ltb (w .at) (f .size) ≡ true → SoundTaken t
       → soundStage f (writeTaken f seen w t .stage) ≡ true
   unfolding soundStage soundShift
   write-sound seen w (Part more) p h = both p h
-  write-sound seen w (Whole byte) p h = rw (lt-ltb _ _ (next-sound (w .at)))
+  write-sound seen w (Whole byte) p h = rw (lt-ltb _ _ (next-sound f fair (w .at)))
 
   kept-sound : (seen : Seen) (byte : ℕ) (v : verdict.Verdict) → soundStage f (keptBy f seen byte v .stage) ≡ true
   unfolding soundStage
@@ -213,7 +142,7 @@ module _ (f : Figure) (fair : Fair f) where
 
   after-byte : (xs : List ℕ) (status : ℕ) (source : Source) → soundStage f (afterByte f xs status source) ≡ true
   unfolding soundStage afterByte shows
-  after-byte xs status (Array at) = lt-ltb _ _ (next-sound at)
+  after-byte xs status (Array at) = lt-ltb _ _ (next-sound f fair at)
   after-byte xs status Status = refl
 
   pub fall-sound : (xs : List ℕ) (status : ℕ) (stage : Stage) → soundStage f stage ≡ true → soundStage f (fall f xs status stage) ≡ true

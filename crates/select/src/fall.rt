@@ -1,13 +1,13 @@
 // A seen fall of SCK in a select: output moves.
 ghost use mathlib.Core.Path.{_≡_};
 ghost use Rattle.select.specs.Fall.{statusByte, byteShown, shows, afterByte, fall, stageLevel};
-use crate::address::next_address;
-use crate::bits::bit_of;
 use crate::notes::Level;
-use crate::stage::Shown;
-use crate::stage::Source;
-use crate::stage::Stage;
 use parts::figures::Figure;
+use stages::address::next_address;
+use stages::bits::bit_of;
+use stages::stage::Shown;
+use stages::stage::Source;
+use stages::stage::Stage;
 
 // The status byte that RDSR shows.
 pub fn status_byte(kept: u8, latch: bool) -> u8

@@ -1,9 +1,4 @@
-// A select, clock by clock: what the chip does between a seen fall and a seen rise of /CS.
-pub mod address;
-pub mod bits;
-pub mod close;
+// A select, clock by clock: a seen rise and a seen fall of SCK, and what an answer says of them.
 pub mod fall;
 pub mod notes;
 pub mod rise;
-pub mod sound;
-pub mod stage;

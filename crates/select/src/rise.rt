@@ -1,26 +1,26 @@
 // A seen rise of SCK in a select.
 ghost use mathlib.Core.Path.{_≡_};
 ghost use Rattle.select.specs.Rise.{quiet, opened, codeRise, upperRise, lowerRise, storeNote, writeRise, keepRise, rise};
-use crate::address::addressed;
-use crate::address::header;
-use crate::address::next_address;
-use crate::address::upper_page;
-use crate::bits::Taken;
-use crate::bits::no_bits;
-use crate::bits::take_bit;
 use crate::notes::Note;
-use crate::stage::LowerByte;
-use crate::stage::Shift;
-use crate::stage::Source;
-use crate::stage::Stage;
-use crate::stage::UpperByte;
-use crate::stage::Writer;
 use parts::commands::Command;
 use parts::commands::decode;
 use parts::figures::Figure;
 use parts::guards::Verdict;
 use parts::guards::may_keep;
 use parts::guards::may_store;
+use stages::address::addressed;
+use stages::address::header;
+use stages::address::next_address;
+use stages::address::upper_page;
+use stages::bits::Taken;
+use stages::bits::no_bits;
+use stages::bits::take_bit;
+use stages::stage::LowerByte;
+use stages::stage::Shift;
+use stages::stage::Source;
+use stages::stage::Stage;
+use stages::stage::UpperByte;
+use stages::stage::Writer;
 
 // What a rise reads besides the stage.
 pub struct Seen {

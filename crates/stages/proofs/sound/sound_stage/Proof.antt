@@ -1,0 +1,119 @@
+-- Case by case; tests joined by & are the definition's conjunctions.
+use Rattle.stages.specs.Sound.{soundStage}
+use borrow.Author.Needs.{needs}
+use Rattle.stages.proofs.sound.sound_stage.Statement.{statement}
+use Rattle.stages.proofs.sound.sound_stage.Tie as tie
+
+enum-told : tie.Need-enum-told
+enum-told c = search needs
+
+enum-known-stage : tie.Need-enum-known-stage
+enum-known-stage c = search needs
+
+sound-shift-requires : tie.Need-sound-shift-requires
+sound-shift-requires c κs = search needs
+
+enum-known-stage-2 : tie.Need-enum-known-stage-2
+enum-known-stage-2 c = search needs
+
+sound-shift-requires-2 : tie.Need-sound-shift-requires-2
+sound-shift-requires-2 c κs = search needs
+
+enum-known-stage-3 : tie.Need-enum-known-stage-3
+enum-known-stage-3 c = search needs
+
+sound-shift-requires-3 : tie.Need-sound-shift-requires-3
+sound-shift-requires-3 c κs = search needs
+
+enum-known-stage-4 : tie.Need-enum-known-stage-4
+enum-known-stage-4 c = search needs
+
+sound-source-requires : tie.Need-sound-source-requires
+sound-source-requires c κs = search needs
+
+enum-known-stage-5 : tie.Need-enum-known-stage-5
+enum-known-stage-5 c = search needs
+
+sound-source-requires-2 : tie.Need-sound-source-requires-2
+sound-source-requires-2 c κs = search needs
+
+enum-known-stage-6 : tie.Need-enum-known-stage-6
+enum-known-stage-6 c = search needs
+
+sound-shift-requires-4 : tie.Need-sound-shift-requires-4
+sound-shift-requires-4 c κs = search needs
+
+enum-known-stage-7 : tie.Need-enum-known-stage-7
+enum-known-stage-7 c = search needs
+
+sound-shift-requires-5 : tie.Need-sound-shift-requires-5
+sound-shift-requires-5 c κs = search needs
+
+enum-told-2 : tie.Need-enum-told-2
+enum-told-2 c = search needs
+
+returns : tie.Need-returns
+unfolding soundStage
+returns c = simp (c .enum-told .given .1)
+
+returns-2 : tie.Need-returns-2
+unfolding soundStage
+returns-2 c = simp (c .sound-shift .ensures, c .before .before .stage .given .1)
+
+returns-3 : tie.Need-returns-3
+unfolding soundStage
+returns-3 c = simp (c .sound-shift2 .ensures, c .before .before .before .before .stage2 .given .1)
+
+returns-4 : tie.Need-returns-4
+unfolding soundStage
+returns-4 c = simp (c .sound-shift3 .ensures, c .before .before .before .before .before .stage3 .given .1)
+
+returns-5 : tie.Need-returns-5
+unfolding soundStage
+returns-5 c = simp (c .sound-source .ensures, c .before .before .stage4 .given .1)
+
+returns-6 : tie.Need-returns-6
+unfolding soundStage
+returns-6 c = simp (c .sound-source2 .ensures, c .before .before .before .stage5 .given .1)
+
+returns-7 : tie.Need-returns-7
+unfolding soundStage
+returns-7 c = simp (c .sound-shift4 .ensures, c .before .before .before .before .before .stage6 .given .1)
+
+returns-8 : tie.Need-returns-8
+unfolding soundStage
+returns-8 c = simp (c .sound-shift5 .ensures, c .before .before .stage7 .given .1)
+
+returns-9 : tie.Need-returns-9
+unfolding soundStage
+returns-9 c = simp (c .enum-told2 .given .1)
+
+pub sound-stage-spec : {M : Type 1} → statement M
+sound-stage-spec =
+    tie.close
+    (tie.spec
+    enum-told
+    enum-known-stage
+    sound-shift-requires
+    enum-known-stage-2
+    sound-shift-requires-2
+    enum-known-stage-3
+    sound-shift-requires-3
+    enum-known-stage-4
+    sound-source-requires
+    enum-known-stage-5
+    sound-source-requires-2
+    enum-known-stage-6
+    sound-shift-requires-4
+    enum-known-stage-7
+    sound-shift-requires-5
+    enum-told-2
+    returns
+    returns-2
+    returns-3
+    returns-4
+    returns-5
+    returns-6
+    returns-7
+    returns-8
+    returns-9)

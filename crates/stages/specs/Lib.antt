@@ -1,0 +1,5 @@
+pub mod Bits
+pub mod Address
+pub mod Close
+pub mod Sound
+pub mod SoundLaws
