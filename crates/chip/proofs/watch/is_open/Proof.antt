@@ -3,15 +3,10 @@ use Rattle.chip.specs.Watch.{isOpen}
 use borrow.Author.Needs.{needs}
 use Rattle.chip.proofs.watch.is_open.Statement.{statement}
 use Rattle.chip.proofs.watch.is_open.Tie as tie
-use Rattle.chip.proofs.watch.is_open.Reads as reads
-use Rattle.chip.proofs.watch.is_open.Lts as lts
-use Rattle.select.proofs.close.is_closed.Reads as is-closed-reads
 
--- src/watch.rt:13:6
 is-closed-requires : tie.Need-is-closed-requires
 is-closed-requires c κs = search needs
 
--- src/watch.rt:9:1
 returns : tie.Need-returns
 unfolding isOpen
 returns c = simp (c .is-closed .ensures)
