@@ -8,5 +8,6 @@ pub mod Watch
 pub mod EventLaws
 pub mod PowerLaws
 pub mod SoundLaws
+pub mod WatchLaws
 pub mod Outcomes
 pub mod Examples
