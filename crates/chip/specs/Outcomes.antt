@@ -2,10 +2,11 @@
 -- Where the promise is an equation to a definition there is nothing to it; the event's answer goes by its numbers, which
 -- say all. Assumes nothing.
 use Prim.Native.Nat.{ℕ}
-use mathlib.Core.Path.{_≡_, sym, ap, _∙_}
+use mathlib.Core.Path.{_≡_, ap}
 use mathlib.Core.Bool.{Bool}
 use mathlib.Core.List.{List}
 use lib.ListN.{length}
+use Rattle.parts.specs.TestLaws.{sole}
 use Rattle.select.specs.NoteLaws.{level-one, note-one}
 use Rattle.chip.specs.Answers.{Paper, paper}
 use Rattle.chip.specs.Event.{event, written}
@@ -14,9 +15,6 @@ use Rattle.chip.specs.Sound.{sound}
 use Rattle.chip.specs.declared.event.Answer.{Answer}
 use Rattle.chip.specs.declared.power.Powered.{Powered}
 use Rattle.chip.specs.declared.state.State.{State}
-
-one : {A : Type 0} {a b c : A} → a ≡ c → b ≡ c → a ≡ b
-one p q = p ∙ sym q
 
 pub paper-one : (a b : Answer) → paper a ≡ paper b → a ≡ b
 paper-one a b e = λ i. record { refusal = e i .refusal; so = so i; note = note i; state = e i .state }
@@ -33,17 +31,17 @@ module _ (xs : List ℕ) (s : State) (code : ℕ) where
       → (paper a ≡ paper (event xs s code)) × (ys ≡ written (event xs s code .note) xs)
       → (paper b ≡ paper (event xs s code)) × (zs ≡ written (event xs s code .note) xs)
       → (a ≡ b) × (ys ≡ zs)
-  event-one a b ys zs p q = (paper-one a b (one (p .0) (q .0)), one (p .1) (q .1))
+  event-one a b ys zs p q = (paper-one a b (sole (p .0) (q .0)), sole (p .1) (q .1))
 
 module _ (part kept : ℕ) (xs : List ℕ) where
   pub power-up-one : (a b : Powered) → a ≡ powerUp part kept xs → b ≡ powerUp part kept xs → a ≡ b
-  power-up-one a b = one
+  power-up-one a b = sole
 
   pub fill-one : (a b : ℕ) (ys zs : List ℕ)
       → (a ≡ fillRefusal part (length xs)) × (ys ≡ filled part xs)
       → (b ≡ fillRefusal part (length xs)) × (zs ≡ filled part xs)
       → (a ≡ b) × (ys ≡ zs)
-  fill-one a b ys zs p q = (one (p .0) (q .0), one (p .1) (q .1))
+  fill-one a b ys zs p q = (sole (p .0) (q .0), sole (p .1) (q .1))
 
 pub sound-one : (s : State) (a b : Bool) → a ≡ sound s → b ≡ sound s → a ≡ b
-sound-one s a b = one
+sound-one s a b = sole

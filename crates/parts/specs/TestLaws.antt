@@ -1,6 +1,6 @@
--- Two tests joined by && hold exactly where both do; what holds of both sides of a choice holds of the choice.
--- Assumes nothing.
-use mathlib.Core.Path.{_≡_, refl}
+-- Two tests joined by && hold exactly where both do; what holds of both sides of a choice holds of the choice; two
+-- values that both equal a third are the same. Assumes nothing.
+use mathlib.Core.Path.{_≡_, refl, sym, _∙_}
 use mathlib.Core.Bool.{Bool, true, false, cond, _&&_}
 
 pub both : {a b : Bool} → a ≡ true → b ≡ true → (a && b) ≡ true
@@ -17,3 +17,7 @@ right false b h = cc
 pub choose : {A : Type 0} (P : A → Type 0) (t : Bool) {a b : A} → P a → P b → P (cond t a b)
 choose P true p q = p
 choose P false p q = q
+
+-- a promise that is an equation to a definition fixes its outcome
+pub sole : {A : Type 0} {a b c : A} → a ≡ c → b ≡ c → a ≡ b
+sole p q = p ∙ sym q
