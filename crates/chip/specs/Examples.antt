@@ -24,27 +24,27 @@ use Rattle.chip.specs.declared.event.Answer.{Answer}
 use Rattle.chip.specs.declared.state.State.{State}
 
 -- "a data byte .. clocked in as eight times SI, SCK up, SCK down"
-clockBit : ℕ → ℕ → List ℕ
+unfoldable pub clockBit : ℕ → ℕ → List ℕ
 clockBit byte k = (4 + byte / 2 ^ k % 2) ∷ 3 ∷ 2 ∷ []
 
-clock : ℕ → List ℕ
+unfoldable pub clock : ℕ → List ℕ
 clock byte =
     clockBit byte 7 ++ clockBit byte 6 ++ clockBit byte 5 ++ clockBit byte 4
     ++ clockBit byte 3 ++ clockBit byte 2 ++ clockBit byte 1 ++ clockBit byte 0
 
-clockAll : List ℕ → List ℕ
+unfoldable pub clockAll : List ℕ → List ℕ
 clockAll [] = []
 clockAll (byte ∷ bytes) = clock byte ++ clockAll bytes
 
 -- "each transfer is one select"
-transfer : List ℕ → List ℕ
+unfoldable pub transfer : List ℕ → List ℕ
 transfer bytes = 0 ∷ clockAll bytes ++ (1 ∷ [])
 
 -- the first n clocks of a byte
-clocks : ℕ → ℕ → List ℕ
+unfoldable pub clocks : ℕ → ℕ → List ℕ
 clocks n byte = take (3 * n) (clock byte)
 
-wren : List ℕ
+unfoldable pub wren : List ℕ
 wren = transfer (0x06 ∷ [])
 
 record Run : Type 0 where
@@ -73,7 +73,7 @@ run s xs (code ∷ es) =
     let a = event xs s code in
     answered s code a (run (a .state) (written (a .note) xs) es)
 
-same : List ℕ → List ℕ → Bool
+unfoldable pub same : List ℕ → List ℕ → Bool
 same [] [] = true
 same [] (y ∷ ys) = false
 same (x ∷ xs) [] = false
@@ -92,24 +92,24 @@ bitsOf [] = []
 bitsOf (byte ∷ bytes) = bits byte ++ bitsOf bytes
 
 -- an array of 00 with some bytes stored, each its address and value
-stored : List ℕ → List ℕ → List ℕ
+unfoldable pub stored : List ℕ → List ℕ → List ℕ
 stored xs [] = xs
 stored xs (at ∷ []) = xs
 stored xs (at ∷ byte ∷ more) = stored (set xs at byte) more
 
 -- an example: what is sent, and every note, every byte shown, every byte stored, and the kept bits and the latch at
 -- the end
-record Example : Type 0 where
-  part : ℕ
-  kept : ℕ
-  events : List ℕ
-  notes : List ℕ
-  shown : List ℕ
-  bytes : List ℕ
-  keptAfter : ℕ
-  latchAfter : Bool
+pub record Example : Type 0 where
+  pub part : ℕ
+  pub kept : ℕ
+  pub events : List ℕ
+  pub notes : List ℕ
+  pub shown : List ℕ
+  pub bytes : List ℕ
+  pub keptAfter : ℕ
+  pub latchAfter : Bool
 
-fresh : ℕ → List ℕ
+unfoldable pub fresh : ℕ → List ℕ
 fresh part = replicate (figureOf part .size) 0
 
 ends : Example → Run → Bool
@@ -127,14 +127,14 @@ all : List Example → Bool
 all [] = true
 all (e ∷ es) = holds e && all es
 
-latchOn : List ℕ
+unfoldable pub latchOn : List ℕ
 latchOn = 1 ∷ 1 ∷ 0 ∷ []
 
-latchOff : List ℕ
+unfoldable pub latchOff : List ℕ
 latchOff = 1 ∷ 0 ∷ 0 ∷ []
 
 -- "Array 00 and part 1 unless said; each transfer is one select."
-starred : List Example
+unfoldable pub starred : List Example
 starred =
     -- 1. "Kept 0Ch, RDSR: 0C."
     record {

@@ -1,5 +1,5 @@
 -- What every rule may rely on in a part's row, whichever part it is. A new row is checked here, once. Assumes nothing.
-use Prim.Native.Nat.{ℕ, zero, suc, _+_, _*_, _<_, _≤_}
+use Prim.Native.Nat.{ℕ, zero, suc, _+_, _*_, _<_, _≤_, _-_, _^_}
 use mathlib.Core.Path.{_≡_, refl, sym, _∙_}
 use mathlib.Core.Bool.{true, false}
 use native.Mathlib.Omega.{arith}
@@ -8,6 +8,11 @@ use lib.Dec.{lit<, lit≤}
 use Rattle.parts.specs.Figures.{figureOf, isPart}
 use Rattle.parts.specs.declared.figures.Figure.{Figure}
 
+-- where the address stands: its top bit in the op-code and the rest in one byte, or two bytes
+pub data Header (count top : ℕ) : Type 0 where
+  one : (k : ℕ) → count ≡ 1 → top ≡ 2 ^ k → Header count top
+  two : count ≡ 2 → top ≡ 0 → Header count top
+
 pub record Fair (f : Figure) : Type 0 where
   -- the kept bits are bits of a byte
   pub mask : f .kept < 256
@@ -15,6 +20,10 @@ pub record Fair (f : Figure) : Type 0 where
   pub pages : f .size ≡ (f .upper + 1) * 256
   -- the op-code's address bit is one of the upper address bits
   pub top : 1 ≤ f .upper
+  -- the upper address bits are the lowest so many of their byte
+  pub bits : ℕ
+  pub low : f .upper ≡ 2 ^ bits - 1
+  pub header : Header (f .«address_bytes») (f .codes .top)
 
 clash : false ≡ true → _≡_ {A = ℕ} 0 1
 clash h = cc
@@ -25,7 +34,7 @@ beyond part = rw (lt-ltb 0 (suc (suc (suc (suc part)))) (omega arith), le-ltb (s
 pub fair : (part : ℕ) → isPart part ≡ true → Fair (figureOf part)
 unfolding figureOf
 fair zero h = absurd (eqb-false 0 1 refl (clash h))
-fair (suc zero) h = record { mask = lit< tt; pages = refl; top = lit≤ tt }
-fair (suc (suc zero)) h = record { mask = lit< tt; pages = refl; top = lit≤ tt }
-fair (suc (suc (suc zero))) h = record { mask = lit< tt; pages = refl; top = lit≤ tt }
+fair (suc zero) h = record { mask = lit< tt; pages = refl; top = lit≤ tt; bits = 1; low = refl; header = one 3 refl refl }
+fair (suc (suc zero)) h = record { mask = lit< tt; pages = refl; top = lit≤ tt; bits = 1; low = refl; header = one 3 refl refl }
+fair (suc (suc (suc zero))) h = record { mask = lit< tt; pages = refl; top = lit≤ tt; bits = 3; low = refl; header = two refl refl }
 fair (suc (suc (suc (suc part)))) h = absurd (eqb-false 0 1 refl (clash (sym (beyond part) ∙ h)))

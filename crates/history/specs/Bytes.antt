@@ -1,0 +1,69 @@
+-- A transfer's bits cut into eights, and its bytes read as op-code, address and data. Assumes nothing.
+use Prim.Native.Nat.{ℕ, zero, suc, _+_, _*_, _/_, _%_, _^_}
+use mathlib.Core.Bool.{Bool, true, false, cond}
+use mathlib.Core.List.{List, [], _∷_, map}
+use lib.ListN.{length, take, drop, getD}
+use lib.Dec.{eqb}
+use Rattle.parts.specs.Commands.{command}
+use Rattle.parts.specs.declared.figures.Figure.{Figure}
+use Rattle.parts.specs.declared.commands.Command.{Command}
+use Rattle.parts.specs.declared.commands.Command.the-variants.{Wren, Wrdi, Rdsr, Wrsr, Read, Write, Other}
+use Rattle.history.specs.Lines.{Bit}
+
+-- a whole byte: its value, and the level of /WP at its eighth bit
+pub record Byte : Type 0 where
+  pub value : ℕ
+  pub wp : Bool
+
+-- "most significant bit first"
+unfoldable pub value : List Bit → ℕ
+value [] = 0
+value (b ∷ bs) = cond (b .si) 1 0 * 2 ^ length bs + value bs
+
+-- "/WP is read at the eighth rise of the data byte (H)." The bit that `getD` names for want of an eighth is never read.
+abbrev pub byte : List Bit → Byte
+byte bits = record { value = value bits; wp = getD bits 7 (record { si = false; wp = true }) .wp }
+
+-- so many bytes' bits
+unfoldable pub eights : ℕ → List Bit → List (List Bit)
+eights zero bits = []
+eights (suc n) bits = take 8 bits ∷ eights n (drop 8 bits)
+
+-- "each whole memory byte", "the first whole status byte": fewer than eight bits at the end are no byte
+unfoldable pub bytes : List Bit → List Byte
+bytes bits = map byte (eights (length bits / 8) bits)
+
+-- "op-code bit 3 is the top bit": the address bit that the op-code holds, 0 where the part has none there
+unfoldable pub topBit : Figure → ℕ → ℕ
+topBit f code = cond (eqb (f .codes .top) 0) 0 (code / f .codes .top % 2)
+
+-- bytes as one number, the upper first
+unfoldable pub number : ℕ → List Byte → ℕ
+number high [] = high
+number high (b ∷ bs) = number (high * 256 + b .value) bs
+
+-- "op-code bit 3 is the top bit, then one byte", "two bytes, upper five bits ignored"
+unfoldable pub address : Figure → ℕ → List Byte → ℕ
+address f code bs = number (topBit f code) (take (f .«address_bytes») bs) % f .size
+
+-- what a transfer says: the latch's new value (WREN, WRDI), memory bytes from an address on (WRITE), status bytes (WRSR),
+-- or nothing that could change anything. "Other op-codes and later bits that no rule names do nothing".
+pub data Reading : Type 0 where
+  latches : Bool → Reading
+  stores : ℕ → List Byte → Reading
+  keeps : List Byte → Reading
+  idles : Reading
+
+unfoldable pub readAs : Figure → ℕ → List Byte → Command → Reading
+readAs f code bs Wren = latches true
+readAs f code bs Wrdi = latches false
+readAs f code bs Rdsr = idles
+readAs f code bs Wrsr = keeps bs
+readAs f code bs Read = idles
+readAs f code bs Write = stores (address f code bs) (drop (f .«address_bytes») bs)
+readAs f code bs Other = idles
+
+-- "The first eight bits are the op-code"
+unfoldable pub reading : Figure → List Byte → Reading
+reading f [] = idles
+reading f (op ∷ bs) = readAs f (op .value) bs (command (f .codes) (op .value))

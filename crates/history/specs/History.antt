@@ -1,0 +1,84 @@
+-- The history (demand 3): "what stood at power-up, overlaid in order of arrival by each whole memory byte that came with
+-- the latch, the protect line and the block rule in its favour, and by the first whole status byte of each transfer, if
+-- it came with the latch and the protect line in its favour. Nothing else." Assumes nothing.
+use Prim.Native.Nat.{ℕ, _+_, _%_}
+use mathlib.Core.Bool.{Bool, true, false, cond, _&&_}
+use mathlib.Core.List.{List, [], _∷_}
+use lib.ListN.{set}
+use lib.Bits.{bitAnd}
+use Rattle.parts.specs.Figures.{figureOf}
+use Rattle.parts.specs.Guards.{mayStore, mayKeep}
+use Rattle.parts.specs.declared.figures.Figure.{Figure}
+use Rattle.parts.specs.declared.guards.Verdict.{Verdict}
+use Rattle.parts.specs.declared.guards.Verdict.the-variants.{Allowed, HeldBack}
+use Rattle.history.specs.Lines.{rest, acts}
+use Rattle.history.specs.Transfers.{Span, transfer, dark, spans}
+use Rattle.history.specs.Bytes.{Byte, bytes, Reading, latches, stores, keeps, idles, reading}
+
+-- what the history speaks of
+pub record World : Type 0 where
+  pub latch : Bool
+  pub kept : ℕ
+  pub array : List ℕ
+
+abbrev pub withLatch : World → Bool → World
+withLatch w on = record { latch = on; kept = w .kept; array = w .array }
+
+-- "each whole memory byte that came with the latch, the protect line and the block rule in its favour"
+unfoldable pub storeIf : World → ℕ → Byte → Verdict → World
+storeIf w at b Allowed = record { latch = w .latch; kept = w .kept; array = set (w .array) at (b .value) }
+storeIf w at b (HeldBack reason) = w
+
+abbrev pub stored : Figure → World → ℕ → Byte → World
+stored f w at b = storeIf w at b (mayStore f (w .latch) (w .kept) (b .wp) at)
+
+-- "overlaid in order of arrival": data byte number k of a WRITE goes k places on from its first address, "rolling over"
+unfoldable pub overlay : Figure → ℕ → ℕ → World → List Byte → World
+overlay f start k w [] = w
+overlay f start k w (b ∷ bs) = overlay f start (k + 1) (stored f w ((start + k) % f .size) b) bs
+
+-- "and by the first whole status byte of each transfer, if it came with the latch and the protect line in its favour",
+-- "under the part's mask". "Further bytes do nothing (H)."
+unfoldable pub keepIf : Figure → World → Byte → Verdict → World
+keepIf f w b Allowed = record { latch = w .latch; kept = bitAnd (b .value) (f .kept); array = w .array }
+keepIf f w b (HeldBack reason) = w
+
+unfoldable pub keepFirst : Figure → World → List Byte → World
+keepFirst f w [] = w
+keepFirst f w (b ∷ bs) = keepIf f w b (mayKeep f (w .latch) (w .kept) (b .wp))
+
+-- "WREN sets the latch at its eighth rise, WRDI clears it there." "Nothing else."
+unfoldable pub effect : Figure → World → Reading → World
+effect f w (latches on) = withLatch w on
+effect f w (stores start bs) = overlay f start 0 w bs
+effect f w (keeps bs) = keepFirst f w bs
+effect f w idles = w
+
+-- "The latch drops at the rise of /CS that ends a WRITE or WRSR with at least one whole data byte, held back or not (H)."
+unfoldable pub atLeastOne : List Byte → Bool
+atLeastOne [] = false
+atLeastOne (b ∷ bs) = true
+
+unfoldable pub drops : Reading → Bool
+drops (latches on) = false
+drops (stores start bs) = atLeastOne bs
+drops (keeps bs) = atLeastOne bs
+drops idles = false
+
+-- a transfer, as far as it came
+abbrev pub transferred : Figure → World → Reading → Bool → World
+transferred f w r closed = cond (closed && drops r) (withLatch (effect f w r) false) (effect f w r)
+
+-- "cut the supply": "The latch is off"
+unfoldable pub spanned : Figure → World → Span → World
+spanned f w (transfer t) = transferred f w (reading f (bytes (t .bits))) (t .closed)
+spanned f w dark = withLatch w false
+
+unfoldable pub inOrder : Figure → World → List Span → World
+inOrder f w [] = w
+inOrder f w (span ∷ more) = inOrder f (spanned f w span) more
+
+-- "Take any list of events from power-up": the part, the kept bits and the array that stood then, and the list
+unfoldable pub history : ℕ → ℕ → List ℕ → List ℕ → World
+history part kept array codes =
+    inOrder (figureOf part) (record { latch = false; kept = kept; array = array }) (spans (acts (rest true) codes))

@@ -1,0 +1,190 @@
+-- A run, event by event: the chip stays sound, its array keeps its length, so the checks before a step never refuse, and it
+-- agrees with the history at every moment. Assumes nothing.
+use Prim.Native.Nat.{ℕ, suc, _≤_}
+use native.Mathlib.Omega.{arith}
+use mathlib.Core.Bool.{Bool, true, false, cond, not}
+use mathlib.Core.List.{List, [], _∷_, _++_}
+use mathlib.Core.Path.{_≡_, refl, sym, ap, _∙_}
+use lib.ListN.{length, length-set}
+use lib.Dec.{eqb, leb}
+use borrow.Author.Tests.{leb-true, eq-eqb, ne-eqb}
+use Rattle.parts.specs.FigureLaws.{Fair, fair}
+use Rattle.parts.specs.Figures.{figureOf, isPart}
+use Rattle.select.specs.declared.notes.Note.{Note}
+use Rattle.select.specs.declared.notes.Note.the-variants.{Nothing, Latch, Stored, HeldBack, KeptSet, KeptHeldBack, PowerLost}
+use Rattle.chip.specs.Lines.{atRest}
+use Rattle.chip.specs.Edges.{cut}
+use Rattle.chip.specs.Event as chip
+use Rattle.chip.specs.EventLaws.{event-steps, checks-none}
+use Rattle.chip.specs.Event.{checks, event, step, live, written}
+use Rattle.chip.specs.SoundLaws.{event-sound, rest-sound}
+use Rattle.chip.specs.Sound.{inMask, sound}
+use Rattle.chip.specs.declared.state.Hold.the-variants.{Off}
+use Rattle.stages.specs.declared.stage.Stage.the-variants.{Closed}
+use Rattle.chip.specs.declared.state.State.{State}
+use Rattle.history.specs.Lines.{Lines, rest, refused, after, act, acts, passes}
+use Rattle.history.specs.History.{World, history}
+use Rattle.history.specs.Run.{Chip, poweredUp, answered, next, run, worldOf}
+use Rattle.history.specs.Laws.Place.{Place, outside, worldAt, placed, base, from, from-now, from-next}
+use Rattle.history.specs.Laws.Select.{closed, select-world}
+use Rattle.history.specs.Laws.Step.{Agrees, off, on, asleep, offChip, Onward, follows}
+
+-- what an event writes keeps the array's length
+written-length : (note : Note) (xs : List ℕ) → length (written note xs) ≡ length xs
+unfolding written
+written-length Nothing xs = refl
+written-length (Latch level) xs = refl
+written-length (Stored at byte) xs = length-set xs at byte
+written-length (HeldBack at reason) xs = refl
+written-length (KeptSet kept) xs = refl
+written-length (KeptHeldBack reason) xs = refl
+written-length PowerLost xs = refl
+
+-- an event that the checks let through, and one that they don't know
+module _ (xs : List ℕ) (s : State) (good : sound s ≡ true) (fits : length xs ≡ figureOf (s .part) .size) (code : ℕ) where
+  event-step : leb 12 code ≡ false → event xs s code ≡ step (figureOf (s .part)) xs s code
+  event-step e = event-steps xs s code (eq-eqb _ _ (checks-none xs s code good (eq-eqb _ _ fits) e))
+
+  event-unknown : leb 12 code ≡ true → event xs s code ≡ chip.refused 5 s
+  unfolding event checks
+  event-unknown e = rw (good, eq-eqb _ _ fits, e)
+
+same : {A : Type 0} (t : Bool) (a : A) → cond t a a ≡ a
+same true a = refl
+same false a = refl
+
+unknown-stays : (l : Lines) (code : ℕ) → leb 12 code ≡ true → after l code ≡ l
+unfolding after refused
+unknown-stays l code e = rw e
+
+unknown-passes : (l : Lines) (code : ℕ) → leb 12 code ≡ true → act l code ≡ passes
+unfolding act
+unknown-passes l code e =
+    rw (other 10 (omega arith), other 0 (omega arith), other 1 (omega arith), other 3 (omega arith)) (same (not (l .power)) passes)
+  where
+    large : 12 ≤ code
+    large = leb-true 12 code e
+
+    other : (k : ℕ) → suc k ≤ 12 → eqb code k ≡ false
+    other k h = ne-eqb code k (λ q. omega (arith, large))
+
+-- a moment of a run
+pub record Moment (part : ℕ) (l : Lines) (p : Place) (w : World) (c : Chip) : Type 0 where
+  pub agrees : Agrees part l p w c
+  pub good : sound (c .state) ≡ true
+  pub fits : length (c .array) ≡ figureOf part .size
+
+-- the chip is the part's
+fits-own :
+    {part : ℕ} {l : Lines} {p : Place} {w : World} {c : Chip} → Agrees part l p w c → length (c .array) ≡ figureOf part .size
+    → length (c .array) ≡ figureOf (c .state .part) .size
+fits-own (off kept array) h = h
+fits-own (on p w v sck si wp hold stage s) h = h
+
+steps-own : {part : ℕ} {l : Lines} {p : Place} {w : World} {c : Chip} → Agrees part l p w c → (code : ℕ)
+    → step (figureOf (c .state .part)) (c .array) (c .state) code ≡ step (figureOf part) (c .array) (c .state) code
+steps-own (off kept array) code = refl
+steps-own (on p w v sck si wp hold stage s) code = refl
+
+world-of :
+    {part : ℕ} {l : Lines} {p : Place} {w : World} {c : Chip} → Agrees part l p w c
+    → worldOf c ≡ worldAt (figureOf part) w p
+unfolding worldAt
+world-of (off kept array) = refl
+world-of {part} (on p w v sck si wp hold stage s) = select-world (figureOf part) w s
+
+module _ (part : ℕ) (fair : Fair (figureOf part)) {l : Lines} {p : Place} {w : World} {c : Chip} (m : Moment part l p w c) where
+  own : length (c .array) ≡ figureOf (c .state .part) .size
+  own = fits-own (m .agrees) (m .fits)
+
+  pub next-steps :
+      (code : ℕ) → leb 12 code ≡ false
+      → next c code ≡ answered c (step (figureOf part) (c .array) (c .state) code)
+  unfolding next
+  next-steps code e =
+      ap (answered c) (event-step (c .array) (c .state) (m .good) own code e ∙ steps-own (m .agrees) code)
+
+  next-stays : (code : ℕ) → leb 12 code ≡ true → next c code ≡ c
+  unfolding next written
+  next-stays code e = ap (answered c) (event-unknown (c .array) (c .state) (m .good) own code e)
+
+  agrees-next : (code : ℕ) → Onward part l p w code (next c code)
+  unfolding placed base
+  agrees-next code = go (leb 12 code) refl
+    where
+      go : (t : Bool) → leb 12 code ≡ t → Onward part l p w code (next c code)
+      go true e = rw (next-stays code e, unknown-stays l code e, unknown-passes l code e) (m .agrees)
+      go false e = rw (next-steps code e) (follows part fair code e (m .agrees))
+
+  pub moment-next :
+      (code : ℕ)
+      → Moment part (after l code) (placed p (act l code)) (base (figureOf part) w p (act l code)) (next c code)
+  unfolding next
+  moment-next code =
+      record {
+        agrees = agrees-next code;
+        good = event-sound (c .state) (m .good) (c .array) code;
+        fits = written-length (event (c .array) (c .state) code .note) (c .array) ∙ m .fits;
+      }
+
+-- where a run leads
+pub record Reached (part : ℕ) (l : Lines) (p : Place) (w : World) (c : Chip) (codes : List ℕ) : Type 0 where
+  pub lines : Lines
+  pub place : Place
+  pub before : World
+  pub moment : Moment part lines place before (run c codes)
+  pub told : from (figureOf part) w p (acts l codes) ≡ worldAt (figureOf part) before place
+
+pub reached :
+    (part : ℕ) → Fair (figureOf part) → {l : Lines} {p : Place} {w : World} {c : Chip} → Moment part l p w c → (codes : List ℕ)
+    → Reached part l p w c codes
+unfolding run acts
+reached part fair {l} {p} {w} {c} m [] =
+    record { lines = l; place = p; before = w; moment = m; told = from-now (figureOf part) w p }
+reached part fair {l} {p} {w} {c} m (code ∷ codes) =
+    let r = reached part fair (moment-next part fair m code) codes in
+    record {
+      lines = r .lines;
+      place = r .place;
+      before = r .before;
+      moment = r .moment;
+      told = from-next (figureOf part) w p (act l code) (acts (after l code) codes) ∙ r .told;
+    }
+
+-- from power-up on
+pub reached-from :
+    (part kept : ℕ) (array : List ℕ) → isPart part ≡ true → inMask part kept ≡ true → length array ≡ figureOf part .size
+    → (codes : List ℕ) → Reached part (rest true) outside (asleep kept array) (poweredUp part kept array) codes
+reached-from part kept array one under fits =
+    reached part (fair part one)
+    (record {
+      agrees = on outside (asleep kept array) (asleep kept array) false false true Off Closed closed;
+      good = rest-sound part kept true one under;
+      fits = fits;
+    })
+
+pub world-told :
+    (part kept : ℕ) (array codes : List ℕ) → Reached part (rest true) outside (asleep kept array) (poweredUp part kept array) codes
+    → worldOf (run (poweredUp part kept array) codes) ≡ history part kept array codes
+unfolding history from
+world-told part kept array codes r = world-of (r .moment .agrees) ∙ sym (r .told)
+
+pub run-append : (c : Chip) (codes more : List ℕ) → run c (codes ++ more) ≡ run (run c codes) more
+unfolding run
+run-append c [] more = refl
+run-append c (code ∷ codes) more = run-append (next c code) codes more
+
+-- the cut and the return of power
+cut-dark : {part : ℕ} {l : Lines} {p : Place} {w : World} {c : Chip} → Agrees part l p w c
+    → answered c (step (figureOf part) (c .array) (c .state) 10) ≡ offChip part (c .state .kept) (c .array)
+unfolding step live cut written
+cut-dark (off kept array) = refl
+cut-dark (on p w v sck si wp hold stage s) = refl
+
+pub cut-leaves : (part : ℕ) → Fair (figureOf part) → {l : Lines} {p : Place} {w : World} {c : Chip} → Moment part l p w c
+    → run c (10 ∷ 11 ∷ []) ≡ record { state = atRest part (c .state .kept) true; array = c .array }
+unfolding run step written
+cut-leaves part fair {c = c} m =
+    next-steps part fair (moment-next part fair m 10) 11 refl
+    ∙ ap (λ (d : Chip). answered d (step (figureOf part) (d .array) (d .state) 11))
+    (next-steps part fair m 10 refl ∙ cut-dark (m .agrees))

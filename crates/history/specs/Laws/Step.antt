@@ -1,0 +1,230 @@
+-- One event: a chip that agrees with the history's lines and place still agrees after it. Pin by pin; all that is not seen
+-- by the select only moves a line. Assumes nothing.
+use Prim.Native.Nat.{ℕ, zero, suc, _+_, _≤_, _<_, zero-le}
+use native.Mathlib.Omega.{arith}
+use mathlib.Core.Bool.{Bool, true, false, cond, _&&_}
+use mathlib.Core.List.{List, []}
+use mathlib.Core.Path.{_≡_, refl, subst}
+use lib.Dec.{eqb, leb}
+use borrow.Author.Tests.{leb-false, eqb-true, eqb-false}
+use Rattle.parts.specs.FigureLaws.{Fair}
+use Rattle.parts.specs.Figures.{figureOf}
+use Rattle.stages.specs.Close.{isClosed, drops}
+use Rattle.select.specs.Fall.{statusByte}
+use Rattle.select.specs.Rise.{rise}
+use Rattle.select.specs.declared.notes.Note.the-variants.{Latch}
+use Rattle.stages.specs.declared.stage.Stage.{Stage}
+use Rattle.stages.specs.declared.stage.Stage.the-variants.{Closed}
+use Rattle.chip.specs.Lines.{atRest, csLevel}
+use Rattle.chip.specs.Edges.{still, csFall, csRise, sckRise, sckFall, holdFall, holdRise, cut}
+use Rattle.chip.specs.Event.{accepted, csStayed, live, step, written}
+use Rattle.chip.specs.Sound.{isOff}
+use Rattle.chip.specs.declared.state.Hold.{Hold}
+use Rattle.chip.specs.declared.state.Hold.the-variants.{Off, On}
+use Rattle.history.specs.Lines.{Lines, rest, put, refused, after, act}
+use Rattle.history.specs.History.{World}
+use Rattle.history.specs.Run.{Chip, answered}
+use Rattle.history.specs.Laws.Place.{Place, outside, inside, isOutside, worldAt, placed, base}
+use Rattle.history.specs.Laws.Select.{Selected, closed, going, select-open, select-world, select-fall, select-fresh, select-rise, select-close}
+
+-- the level of /CS, by /HOLD and whether no select is open
+abbrev csOf : Hold → Bool → Bool
+csOf Off seen = seen
+csOf (On level) seen = level
+
+abbrev isHigh : Hold → Bool
+isHigh Off = true
+isHigh (On level) = false
+
+abbrev pub linesOf : Bool → Bool → Bool → Hold → Bool → Lines
+linesOf sck si wp hold seen =
+    record { power = true; cs = csOf hold seen; sck = sck; si = si; hold = isHigh hold; wp = wp; seen = seen }
+
+abbrev pub chipOf : ℕ → World → Bool → Bool → Bool → Hold → Stage → Chip
+chipOf part v sck si wp hold stage =
+    record {
+      state =
+          record {
+            part = part;
+            kept = v .kept;
+            power = true;
+            sck = sck;
+            si = si;
+            wp = wp;
+            latch = v .latch;
+            hold = hold;
+            stage = stage;
+          };
+      array = v .array;
+    }
+
+-- the world with the latch off, and the chip with power off
+abbrev pub asleep : ℕ → List ℕ → World
+asleep kept array = record { latch = false; kept = kept; array = array }
+
+abbrev pub offChip : ℕ → ℕ → List ℕ → Chip
+offChip part kept array = record { state = atRest part kept false; array = array }
+
+-- a chip agrees with the history: the lines, and the select with the open transfer
+pub data Agrees (part : ℕ) : Lines → Place → World → Chip → Type 0 where
+  off :
+      (kept : ℕ) (array : List ℕ)
+      → Agrees part (rest false) outside (asleep kept array) (offChip part kept array)
+  on :
+      (p : Place) (w v : World) (sck si wp : Bool) (hold : Hold) (stage : Stage) → Selected (figureOf part) w p v stage
+      → Agrees part (linesOf sck si wp hold (isOutside p)) p w (chipOf part v sck si wp hold stage)
+
+-- this chip agrees after an event
+abbrev pub Onward : ℕ → Lines → Place → World → ℕ → Chip → Type 0
+Onward part l p w code c =
+    Agrees part (after l code) (placed p (act l code)) (base (figureOf part) w p (act l code)) c
+
+-- what holds of each of the twelve codes holds of every code under twelve
+abbrev Each : (ℕ → Type 0) → ℕ → ℕ → Type 0
+Each P k zero = Unit {0}
+Each P k (suc n) = P k × Each P (suc k) n
+
+infixr 20 _also_
+abbrev _also_ : {A B : Type 0} → A → B → A × B
+a also b = (a, b)
+
+each : (P : ℕ → Type 0) (n k code : ℕ) → Each P k n → k ≤ code → code < k + n → P code
+each P zero k code ps l h = absurd (omega arith)
+each P (suc n) k code ps l h = go (eqb k code) refl (λ m. each P n (suc k) code (ps .1) m (omega arith))
+  where
+    above : (k ≡ code → ⊥) → k ≤ code → suc k ≤ code
+    above differs l = omega arith
+
+    go : (t : Bool) → eqb k code ≡ t → (suc k ≤ code → P code) → P code
+    go true e later = subst P (eqb-true k code e) (ps .0)
+    go false e later = later (above (eqb-false k code e) l)
+
+module _ (part : ℕ) (fair : Fair (figureOf part)) where
+  -- the step leads on
+  abbrev Follows : Lines → Place → World → Chip → ℕ → Type 0
+  Follows l p w c code = Onward part l p w code (answered c (step (figureOf part) (c .array) (c .state) code))
+
+  module _ (w : World) (si wp : Bool) where
+    -- it agrees after this event, whatever the levels of SCK and /HOLD and whatever select is open
+    abbrev After : ℕ → Type 0
+    After code =
+        (sck : Bool) (hold : Hold) (p : Place) (v : World) (stage : Stage) → Selected (figureOf part) w p v stage
+        → Follows (linesOf sck si wp hold (isOutside p)) p w (chipOf part v sck si wp hold stage) code
+
+    cs-low : After 0
+    unfolding after refused put act placed base worldAt step live csLevel isClosed csFall written
+    cs-low sck Off _ _ _ closed = on (inside []) w w sck si wp Off _ (select-fresh (figureOf part) w)
+    cs-low sck Off _ _ _ (going bs whole r v stage c e) =
+        let s = going bs whole r v stage c e in
+        rw (select-open (figureOf part) w s) (on (inside bs) w v sck si wp Off stage s)
+    cs-low sck (On true) p v stage s = on p w v sck si wp (On false) stage s
+    cs-low sck (On false) p v stage s = on p w v sck si wp (On false) stage s
+
+    -- the close drops the latch, if it was set
+    abbrev shut : Bool → Bool → ℕ → List ℕ → Chip
+    shut sck latch kept array = chipOf part (record { latch = latch; kept = kept; array = array }) sck si wp Off Closed
+
+    closing :
+        (sck latch d : Bool) (kept : ℕ) (array : List ℕ)
+        → Agrees part (linesOf sck si wp Off true) outside
+        (cond d (asleep kept array) (record { latch = latch; kept = kept; array = array }))
+        (answered (shut sck latch kept array) (accepted (cond (latch && d) (record { state = shut sck false kept array .state; note = Latch false }) (still (shut sck latch kept array .state)))))
+    unfolding written
+    closing sck true true kept array = on outside _ _ sck si wp Off Closed closed
+    closing sck true false kept array = on outside _ _ sck si wp Off Closed closed
+    closing sck false true kept array = on outside _ _ sck si wp Off Closed closed
+    closing sck false false kept array = on outside _ _ sck si wp Off Closed closed
+
+    cs-high : After 1
+    unfolding after refused put act placed base step live csLevel isClosed csRise written
+    cs-high sck Off _ _ _ closed = on outside w w sck si wp Off Closed closed
+    cs-high sck Off _ _ _ (going bs whole r v stage c e) =
+        let s = going bs whole r v stage c e in
+        rw (select-open (figureOf part) w s, ← select-close (figureOf part) fair w s)
+        (closing sck (v .latch) (drops stage) (v .kept) (v .array))
+    cs-high sck (On true) p v stage s = on p w v sck si wp (On true) stage s
+    cs-high sck (On false) p v stage s = on p w v sck si wp (On true) stage s
+
+    sck-low : After 2
+    unfolding after refused put act placed base step live sckFall written
+    sck-low true Off p v stage s =
+        on p w v false si wp Off _ (select-fall (figureOf part) w (v .array) (statusByte (v .kept) (v .latch)) s)
+    sck-low true (On level) p v stage s = on p w v false si wp (On level) stage s
+    sck-low false hold p v stage s = on p w v false si wp hold stage s
+
+    sck-high : After 3
+    unfolding after refused put act placed base step live sckRise rise written
+    sck-high false Off _ _ _ closed = on outside w w true si wp Off Closed closed
+    sck-high false Off _ _ _ (going bs whole r v stage c e) =
+        let s = going bs whole r v stage c e in
+        on _ w _ true si wp Off _ (select-rise (figureOf part) fair w (record { si = si; wp = wp }) s)
+    sck-high false (On level) p v stage s = on p w v true si wp (On level) stage s
+    sck-high true hold p v stage s = on p w v true si wp hold stage s
+
+    si-low : After 4
+    unfolding after refused put act placed base step live written
+    si-low sck hold p v stage s = on p w v sck false wp hold stage s
+
+    si-high : After 5
+    unfolding after refused put act placed base step live written
+    si-high sck hold p v stage s = on p w v sck true wp hold stage s
+
+    hold-low : After 6
+    unfolding after refused put act placed base step live isOff holdFall written
+    hold-low true Off p v stage s = on p w v true si wp Off stage s
+    hold-low false Off p v stage s =
+        rw (select-open (figureOf part) w s) (on p w v false si wp (On (isOutside p)) stage s)
+    hold-low sck (On level) p v stage s = on p w v sck si wp (On level) stage s
+
+    hold-high : After 7
+    unfolding after refused put act placed base step live isOff csStayed csLevel isClosed holdRise written
+    hold-high sck Off p v stage s = on p w v sck si wp Off stage s
+    hold-high true (On level) p v stage s = on p w v true si wp (On level) stage s
+    hold-high false (On true) _ _ _ closed = on outside w w false si wp Off Closed closed
+    hold-high false (On false) _ _ _ closed = on outside w w false si wp (On false) Closed closed
+    hold-high false (On true) _ _ _ (going bs whole r v stage c e) =
+        let s = going bs whole r v stage c e in
+        rw (select-open (figureOf part) w s) (on (inside bs) w v false si wp (On true) stage s)
+    hold-high false (On false) _ _ _ (going bs whole r v stage c e) =
+        let s = going bs whole r v stage c e in
+        rw (select-open (figureOf part) w s) (on (inside bs) w v false si wp Off stage s)
+
+    wp-low : After 8
+    unfolding after refused put act placed base step live written
+    wp-low sck hold p v stage s = on p w v sck si false hold stage s
+
+    wp-high : After 9
+    unfolding after refused put act placed base step live written
+    wp-high sck hold p v stage s = on p w v sck si true hold stage s
+
+    vdd-low : After 10
+    unfolding after refused put act placed base step live cut written
+    vdd-low sck hold p v stage s = rw (← select-world (figureOf part) w s) (off (v .kept) (v .array))
+
+    vdd-high : After 11
+    unfolding after refused put act placed base step live written
+    vdd-high sck hold p v stage s = on p w v sck si wp hold stage s
+
+    any-pin : (code : ℕ) → leb 12 code ≡ false → After code
+    any-pin code h =
+        each After 12 0 code
+        (cs-low also cs-high also sck-low also sck-high also si-low also si-high
+        also hold-low also hold-high also wp-low also wp-high also vdd-low also vdd-high also tt)
+        zero-le (leb-false 12 code h)
+
+  -- with power off only event 11 has an effect
+  darkness :
+      (kept : ℕ) (array : List ℕ) (code : ℕ) → leb 12 code ≡ false
+      → Follows (rest false) outside (asleep kept array) (offChip part kept array) code
+  unfolding after refused act placed base step written
+  darkness kept array code h = go (eqb code 11) refl
+    where
+      go : (t : Bool) → eqb code 11 ≡ t → Follows (rest false) outside (asleep kept array) (offChip part kept array) code
+      go true e = rw (h, e) (on outside (asleep kept array) (asleep kept array) false false true Off Closed closed)
+      go false e = rw (h, e) (off kept array)
+
+  pub follows :
+      {l : Lines} {p : Place} {w : World} {c : Chip} (code : ℕ) → leb 12 code ≡ false → Agrees part l p w c
+      → Follows l p w c code
+  follows code h (off kept array) = darkness kept array code h
+  follows code h (on p w v sck si wp hold stage s) = any-pin w si wp code h sck hold p v stage s
