@@ -16,6 +16,7 @@ pub fn status_byte(kept: u8, latch: bool) -> u8
     if latch { kept | 0x02 } else { kept }
 }
 
+// The byte that a READ or an RDSR shows, the array's as it is lent to this call.
 fn byte_shown(array: &[u8], status: u8, source: Source) -> u8
     ensures { λ r. ⌜ r ≡ byteShown (now (array .entry)) status source ⌝ }
 {
@@ -47,6 +48,7 @@ fn after_byte(f: Figure, array: &[u8], status: u8, source: Source) -> Stage
     }
 }
 
+// "Output moves on a seen fall of SCK once the header is whole." Every other stage stays.
 pub fn fall(f: Figure, array: &[u8], status: u8, stage: Stage) -> Stage
     ensures { λ r. ⌜ r ≡ fall f (now (array .entry)) status stage ⌝ }
 {

@@ -38,6 +38,7 @@ pub struct Risen {
     pub note: Note,
 }
 
+// To this stage, and nothing else happens.
 fn to_stage(seen: Seen, stage: Stage) -> Risen
     ensures { λ r. ⌜ r ≡ quiet seen stage ⌝ }
 {
@@ -76,6 +77,7 @@ fn open(f: Figure, seen: Seen, code: u8) -> Risen
     }
 }
 
+// A bit of the op-code.
 fn code_rise(f: Figure, seen: Seen, shift: Shift) -> Risen
     ensures { λ r. ⌜ r ≡ codeRise f seen shift ⌝ }
 {
@@ -86,6 +88,7 @@ fn code_rise(f: Figure, seen: Seen, shift: Shift) -> Risen
     }
 }
 
+// A bit of the upper address byte, where the part has two.
 fn upper_rise(f: Figure, seen: Seen, upper: UpperByte) -> Risen
     ensures { λ r. ⌜ r ≡ upperRise f seen upper ⌝ }
 {
@@ -114,6 +117,7 @@ fn upper_rise(f: Figure, seen: Seen, upper: UpperByte) -> Risen
     }
 }
 
+// A bit of the last address byte.
 fn lower_rise(seen: Seen, lower: LowerByte) -> Risen
     ensures { λ r. ⌜ r ≡ lowerRise seen lower ⌝ }
 {
@@ -134,6 +138,7 @@ fn lower_rise(seen: Seen, lower: LowerByte) -> Risen
     }
 }
 
+// Held back or not, the note names the address.
 fn store_note(at: usize, byte: u8, verdict: Verdict) -> Note
     ensures { λ r. ⌜ r ≡ storeNote at byte verdict ⌝ }
 {
@@ -211,6 +216,7 @@ fn keep_rise(f: Figure, seen: Seen, shift: Shift) -> Risen
     }
 }
 
+// "Each seen rise of SCK in an open select takes SI". What no rule names does nothing.
 pub fn rise(f: Figure, seen: Seen, stage: Stage) -> Risen
     ensures { λ r. ⌜ r ≡ rise f seen stage ⌝ }
 {
