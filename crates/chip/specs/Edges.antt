@@ -14,8 +14,9 @@ use Rattle.select.specs.declared.rise.Risen.{Risen}
 use Rattle.stages.specs.declared.stage.Stage.{Stage}
 use Rattle.stages.specs.declared.stage.Stage.the-variants.{Closed, Code}
 use Rattle.chip.specs.Lines.{atRest}
+use Rattle.chip.specs.Sound.{isOff}
 use Rattle.chip.specs.declared.state.Hold.{Hold}
-use Rattle.chip.specs.declared.state.Hold.the-variants.{Off, On}
+use Rattle.chip.specs.declared.state.Hold.the-variants.{Off, OnLow, OnHigh}
 use Rattle.chip.specs.declared.state.State.{State}
 use Rattle.chip.specs.declared.state.Moved.{Moved}
 
@@ -95,23 +96,18 @@ abbrev pub still : State → Moved
 still s = record { state = s; note = Nothing }
 
 -- "A seen fall of /CS opens a select"
-abbrev pub csFallIn : State → Hold → State
-csFallIn s Off = withStage s (s .latch) (Code fresh)
-csFallIn s (On level) = withHold s (On false)
-
 unfoldable pub csFall : State → Moved
-csFall s = still (csFallIn s (s .hold))
+csFall s = still (cond (isOff (s .hold)) (withStage s (s .latch) (Code fresh)) (withHold s OnLow))
 
 -- "a seen rise closes it and releases SO". "The note then is latch 0 if the latch was set, else nothing."
-abbrev pub csRiseIn : State → Hold → Moved
-csRiseIn s Off =
+abbrev pub closed : State → Moved
+closed s =
     cond (s .latch && drops (s .stage))
     (record { state = withStage s false Closed; note = Latch false })
     (still (withStage s (s .latch) Closed))
-csRiseIn s (On level) = still (withHold s (On true))
 
 unfoldable pub csRise : State → Moved
-csRise s = csRiseIn s (s .hold)
+csRise s = cond (isOff (s .hold)) (closed s) (still (withHold s OnHigh))
 
 -- "Each seen rise of SCK in an open select takes SI"
 abbrev pub seenBy : State → Seen
@@ -135,25 +131,20 @@ rose s r =
       note = r .note;
     }
 
-abbrev pub sckRiseIn : Figure → State → Hold → Moved
-sckRiseIn f s Off = rose s (rise f (seenBy s) (s .stage))
-sckRiseIn f s (On level) = still (withSck s true)
-
 unfoldable pub sckRise : Figure → State → Moved
-sckRise f s = sckRiseIn f s (s .hold)
+sckRise f s = cond (isOff (s .hold)) (rose s (rise f (seenBy s) (s .stage))) (still (withSck s true))
 
 -- "Output moves on a seen fall of SCK"
-abbrev pub sckFallIn : Figure → List ℕ → State → Hold → State
-sckFallIn f xs s Off =
-    withStage (withSck s false) (s .latch) (fall f xs (statusByte (s .kept) (s .latch)) (s .stage))
-sckFallIn f xs s (On level) = withSck s false
+abbrev pub shown : Figure → List ℕ → State → Stage
+shown f xs s = fall f xs (statusByte (s .kept) (s .latch)) (s .stage)
 
 unfoldable pub sckFall : Figure → List ℕ → State → Moved
-sckFall f xs s = still (sckFallIn f xs s (s .hold))
+sckFall f xs s =
+    still (cond (isOff (s .hold)) (withStage (withSck s false) (s .latch) (shown f xs s)) (withSck s false))
 
 -- /HOLD falls: /CS has the level that shows whether a select is open
 unfoldable pub holdFall : State → Moved
-holdFall s = still (withHold s (On (isClosed (s .stage))))
+holdFall s = still (withHold s (cond (isClosed (s .stage)) OnHigh OnLow))
 
 unfoldable pub holdRise : State → Moved
 holdRise s = still (withHold s Off)

@@ -8,7 +8,7 @@ use Rattle.select.specs.declared.notes.Level.the-variants.{Released}
 use Rattle.stages.specs.declared.stage.Stage.{Stage}
 use Rattle.stages.specs.declared.stage.Stage.the-variants.{Closed}
 use Rattle.chip.specs.declared.state.Hold.{Hold}
-use Rattle.chip.specs.declared.state.Hold.the-variants.{Off, On}
+use Rattle.chip.specs.declared.state.Hold.the-variants.{Off, OnLow, OnHigh}
 use Rattle.chip.specs.declared.state.State.{State}
 
 -- "At power-up (H): /CS, /HOLD and /WP high, SCK and SI low, no select open, latch off." "the off state: part and kept
@@ -30,7 +30,8 @@ atRest part kept power =
 -- the level of /CS: with /HOLD high, high exactly where no select is open; in hold, "only their levels kept"
 abbrev pub csFrom : Hold → Stage → Bool
 csFrom Off stage = isClosed stage
-csFrom (On level) stage = level
+csFrom OnLow stage = false
+csFrom OnHigh stage = true
 
 unfoldable pub csLevel : State → Bool
 csLevel s = csFrom (s .hold) (s .stage)
@@ -38,7 +39,8 @@ csLevel s = csFrom (s .hold) (s .stage)
 -- "While /HOLD is low .. SO is released. When /HOLD rises, SO shows again what it showed before."
 abbrev pub soFrom : Hold → Stage → Level
 soFrom Off stage = stageLevel stage
-soFrom (On level) stage = Released
+soFrom OnLow stage = Released
+soFrom OnHigh stage = Released
 
 unfoldable pub soLevel : State → Level
 soLevel s = soFrom (s .hold) (s .stage)

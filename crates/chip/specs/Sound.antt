@@ -9,12 +9,13 @@ use Rattle.parts.specs.Figures.{figureOf, isPart}
 use Rattle.stages.specs.Close.{isClosed}
 use Rattle.stages.specs.Sound.{soundStage}
 use Rattle.chip.specs.declared.state.Hold.{Hold}
-use Rattle.chip.specs.declared.state.Hold.the-variants.{Off, On}
+use Rattle.chip.specs.declared.state.Hold.the-variants.{Off, OnLow, OnHigh}
 use Rattle.chip.specs.declared.state.State.{State}
 
 unfoldable pub isOff : Hold → Bool
 isOff Off = true
-isOff (On level) = false
+isOff OnLow = false
+isOff OnHigh = false
 
 -- every line and bit but the kept ones as at power-up
 unfoldable pub rests : State → Bool

@@ -14,14 +14,12 @@ use Rattle.stages.specs.Close.{isClosed, drops}
 use Rattle.select.specs.Fall.{statusByte}
 use Rattle.stages.specs.Sound.{soundStage, soundShift}
 use Rattle.select.specs.SoundLaws.{rise-sound, rise-masked, fall-sound}
-use Rattle.chip.specs.Edges.{seenBy, csFall, csRise, csRiseIn, csFallIn, sckRise, sckRiseIn, sckFall, sckFallIn, holdFall, holdRise, cut}
+use Rattle.chip.specs.Edges.{seenBy, csFall, csRise, sckRise, sckFall, holdFall, holdRise, cut}
 use Rattle.chip.specs.Event.{csTo, sckTo, holdTo, csStayed, vddTo, live, dark, step, checks, event}
 use Rattle.chip.specs.Lines.{atRest, csLevel}
 use Rattle.chip.specs.Power.{powerRefusal, powerUp}
 use Rattle.chip.specs.PowerLaws.{power-passed}
 use Rattle.chip.specs.Sound.{isOff, rests, inMask, sound}
-use Rattle.chip.specs.declared.state.Hold.{Hold}
-use Rattle.chip.specs.declared.state.Hold.the-variants.{Off, On}
 use Rattle.chip.specs.declared.state.State.{State}
 use Rattle.chip.specs.declared.state.Moved.{Moved}
 use Rattle.chip.specs.declared.event.Answer.{Answer}
@@ -61,11 +59,14 @@ unfolding sound rests soundStage isOff isClosed
 rest-sound part kept true p k = both (both (both p k) refl) refl
 rest-sound part kept false p k = both (both (both p k) refl) refl
 
+abbrev Sound : State → Type 0
+Sound s = sound s ≡ true
+
 abbrev Keeps : Moved → Type 0
-Keeps m = sound (m .state) ≡ true
+Keeps m = Sound (m .state)
 
 abbrev Answers : Answer → Type 0
-Answers a = sound (a .state) ≡ true
+Answers a = Sound (a .state)
 
 module _ (s : State) (h : sound s ≡ true) (on : s .power ≡ true) where
   g : Good s
@@ -82,39 +83,43 @@ module _ (s : State) (h : sound s ≡ true) (on : s .power ≡ true) where
       → soundStage (figureOf (s .part)) (next .stage) ≡ true → sound next ≡ true
   staged next p q k t = good-sound next (p ∙ on) (record { part = rw q (g .part); kept = rw (q, k) (g .kept); stage = rw q t })
 
-  cs-fall : (hold : Hold) → sound (csFallIn s hold) ≡ true
-  unfolding soundStage soundShift
-  cs-fall Off = staged _ refl refl refl refl
-  cs-fall (On level) = kept-on _ refl refl refl refl
+  cs-fall : Keeps (csFall s)
+  unfolding csFall soundStage soundShift
+  cs-fall = choose Sound (isOff (s .hold)) (staged _ refl refl refl refl) (kept-on _ refl refl refl refl)
 
-  cs-rise : (hold : Hold) → Keeps (csRiseIn s hold)
-  unfolding soundStage
-  cs-rise Off = choose Keeps (s .latch && drops (s .stage)) (staged _ refl refl refl refl) (staged _ refl refl refl refl)
-  cs-rise (On level) = kept-on _ refl refl refl refl
+  cs-rise : Keeps (csRise s)
+  unfolding csRise soundStage
+  cs-rise =
+      choose Keeps (isOff (s .hold))
+      (choose Keeps (s .latch && drops (s .stage)) (staged _ refl refl refl refl) (staged _ refl refl refl refl))
+      (kept-on _ refl refl refl refl)
 
-  sck-rise : (hold : Hold) → Keeps (sckRiseIn (figureOf (s .part)) s hold)
-  sck-rise Off =
-      good-sound _ on
+  sck-rise : Keeps (sckRise (figureOf (s .part)) s)
+  unfolding sckRise
+  sck-rise =
+      choose Keeps (isOff (s .hold))
+      (good-sound _ on
       (record {
         part = g .part;
         kept = eq-eqb _ _ (rise-masked (figureOf (s .part)) (fair (s .part) (g .part)) (seenBy s) (s .stage) (eqb-true _ _ (g .kept)));
         stage = rise-sound (figureOf (s .part)) (fair (s .part) (g .part)) (seenBy s) (s .stage) (g .stage);
-      })
-  sck-rise (On level) = kept-on _ refl refl refl refl
+      }))
+      (kept-on _ refl refl refl refl)
 
-  sck-fall : (xs : List ℕ) (hold : Hold) → sound (sckFallIn (figureOf (s .part)) xs s hold) ≡ true
-  sck-fall xs Off = staged _ refl refl refl (fall-sound (figureOf (s .part)) (fair (s .part) (g .part)) xs (statusByte (s .kept) (s .latch)) (s .stage) (g .stage))
-  sck-fall xs (On level) = kept-on _ refl refl refl refl
+  sck-fall : (xs : List ℕ) → Keeps (sckFall (figureOf (s .part)) xs s)
+  unfolding sckFall
+  sck-fall xs =
+      choose Sound (isOff (s .hold))
+      (staged _ refl refl refl (fall-sound (figureOf (s .part)) (fair (s .part) (g .part)) xs (statusByte (s .kept) (s .latch)) (s .stage) (g .stage)))
+      (kept-on _ refl refl refl refl)
 
   cs-to : (level : Bool) → Keeps (csTo s level)
-  unfolding csFall csRise
-  cs-to true = choose Keeps (csLevel s) h (cs-rise (s .hold))
-  cs-to false = choose Keeps (csLevel s) (cs-fall (s .hold)) h
+  cs-to true = choose Keeps (csLevel s) h cs-rise
+  cs-to false = choose Keeps (csLevel s) cs-fall h
 
   sck-to : (xs : List ℕ) (level : Bool) → Keeps (sckTo (figureOf (s .part)) xs s level)
-  unfolding sckRise sckFall
-  sck-to xs true = choose Keeps (s .sck) h (sck-rise (s .hold))
-  sck-to xs false = choose Keeps (s .sck) (sck-fall xs (s .hold)) h
+  sck-to xs true = choose Keeps (s .sck) h sck-rise
+  sck-to xs false = choose Keeps (s .sck) (sck-fall xs) h
 
   hold-to : (level : Bool) → Answers (holdTo s level)
   unfolding holdFall holdRise
@@ -142,7 +147,7 @@ module _ (s : State) (h : sound s ≡ true) (on : s .power ≡ true) where
 module _ (s : State) (h : sound s ≡ true) where
   dark-sound : (code : ℕ) → Answers (dark s code)
   dark-sound code =
-      choose (λ (n : State). sound n ≡ true) (eqb code 11) (rest-sound (s .part) (s .kept) true (good s h .part) (good s h .kept)) h
+      choose Sound (eqb code 11) (rest-sound (s .part) (s .kept) true (good s h .part) (good s h .kept)) h
 
   pub step-sound : (xs : List ℕ) (code : ℕ) → Answers (step (figureOf (s .part)) xs s code)
   unfolding step

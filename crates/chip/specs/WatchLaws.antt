@@ -8,27 +8,20 @@ use lib.Dec.{eqb}
 use Rattle.parts.specs.TestLaws.{left, right}
 use Rattle.parts.specs.declared.figures.Figure.{Figure}
 use Rattle.select.specs.Rise.{rise}
-use Rattle.chip.specs.Edges.{still, seenBy, rose, sckRiseIn, sckRise}
+use Rattle.chip.specs.Edges.{still, withSck, seenBy, rose, sckRise}
 use Rattle.chip.specs.Event.{accepted, live, dark, step}
 use Rattle.chip.specs.Sound.{isOff}
 use Rattle.chip.specs.Watch.{isOpen, seesRise}
-use Rattle.chip.specs.declared.state.Hold.{Hold}
-use Rattle.chip.specs.declared.state.Hold.the-variants.{Off, On}
 use Rattle.chip.specs.declared.state.State.{State}
 
 module _ (f : Figure) (xs : List ℕ) (s : State) where
-  unheld : (hold : Hold) → isOff hold ≡ true → sckRiseIn f s hold ≡ rose s (rise f (seenBy s) (s .stage))
-  unfolding isOff
-  unheld Off h = refl
-  unheld (On level) h = cc
-
   pub rise-seen : (code : ℕ) → seesRise s code ≡ true → step f xs s code ≡ accepted (rose s (rise f (seenBy s) (s .stage)))
   unfolding seesRise step live sckRise
   rise-seen code h =
       ap (step f xs s) three
       ∙ ap (λ (p : Bool). cond p (live f xs s 1 true) (dark s 3)) on
-      ∙ ap (λ (k : Bool). accepted (cond k (still s) (sckRiseIn f s (s .hold)))) low
-      ∙ ap accepted (unheld (s .hold) off)
+      ∙ ap (λ (k : Bool). accepted (cond k (still s) (sckRise f s))) low
+      ∙ ap (λ (k : Bool). accepted (cond k (rose s (rise f (seenBy s) (s .stage))) (still (withSck s true)))) off
     where
       a : Bool
       a = s .power && isOff (s .hold)

@@ -1,6 +1,7 @@
 // The pins' edges, each a method that hands back the next state. Each is called only where the pin moves.
 ghost use mathlib.Core.Path.{_≡_};
 ghost use Rattle.chip.specs.Edges.{still, csFall, csRise, sckRise, sckFall, holdFall, holdRise, cut};
+use crate::sound::is_off;
 use crate::state::Hold;
 use crate::state::Moved;
 use crate::state::State;
@@ -30,26 +31,23 @@ impl State {
         ensures { λ r. ⌜ r ≡ csFall self ⌝ }
     {
         let hold = self.hold;
-        match hold {
-            Hold::Off => {
-                let state = State {
-                    stage: Stage::Code(no_bits()),
-                    ..self
-                };
-                Moved {
-                    state,
-                    note: Note::Nothing,
-                }
+        if is_off(hold) {
+            let state = State {
+                stage: Stage::Code(no_bits()),
+                ..self
+            };
+            Moved {
+                state,
+                note: Note::Nothing,
             }
-            Hold::On(_) => {
-                let state = State {
-                    hold: Hold::On(false),
-                    ..self
-                };
-                Moved {
-                    state,
-                    note: Note::Nothing,
-                }
+        } else {
+            let state = State {
+                hold: Hold::OnLow,
+                ..self
+            };
+            Moved {
+                state,
+                note: Note::Nothing,
             }
         }
     }
@@ -59,38 +57,35 @@ impl State {
     {
         let hold = self.hold;
         let stage = self.stage;
-        match hold {
-            Hold::Off => {
-                let dropped = self.latch & drops(stage);
-                if dropped {
-                    let state = State {
-                        latch: false,
-                        stage: Stage::Closed,
-                        ..self
-                    };
-                    return Moved {
-                        state,
-                        note: Note::Latch(false),
-                    };
-                }
+        if is_off(hold) {
+            let dropped = self.latch & drops(stage);
+            if dropped {
                 let state = State {
+                    latch: false,
                     stage: Stage::Closed,
                     ..self
                 };
-                Moved {
+                return Moved {
                     state,
-                    note: Note::Nothing,
-                }
-            }
-            Hold::On(_) => {
-                let state = State {
-                    hold: Hold::On(true),
-                    ..self
+                    note: Note::Latch(false),
                 };
-                Moved {
-                    state,
-                    note: Note::Nothing,
-                }
+            }
+            let state = State {
+                stage: Stage::Closed,
+                ..self
+            };
+            Moved {
+                state,
+                note: Note::Nothing,
+            }
+        } else {
+            let state = State {
+                hold: Hold::OnHigh,
+                ..self
+            };
+            Moved {
+                state,
+                note: Note::Nothing,
             }
         }
     }
@@ -100,32 +95,29 @@ impl State {
     {
         let hold = self.hold;
         let stage = self.stage;
-        match hold {
-            Hold::Off => {
-                let seen = Seen {
-                    latch: self.latch,
-                    kept: self.kept,
-                    wp: self.wp,
-                    si: self.si,
-                };
-                let risen = rise(f, seen, stage);
-                let next = risen.stage;
-                let note = risen.note;
-                let state = State {
-                    kept: risen.kept,
-                    sck: true,
-                    latch: risen.latch,
-                    stage: next,
-                    ..self
-                };
-                Moved { state, note }
-            }
-            Hold::On(_) => {
-                let state = State { sck: true, ..self };
-                Moved {
-                    state,
-                    note: Note::Nothing,
-                }
+        if is_off(hold) {
+            let seen = Seen {
+                latch: self.latch,
+                kept: self.kept,
+                wp: self.wp,
+                si: self.si,
+            };
+            let risen = rise(f, seen, stage);
+            let next = risen.stage;
+            let note = risen.note;
+            let state = State {
+                kept: risen.kept,
+                sck: true,
+                latch: risen.latch,
+                stage: next,
+                ..self
+            };
+            Moved { state, note }
+        } else {
+            let state = State { sck: true, ..self };
+            Moved {
+                state,
+                note: Note::Nothing,
             }
         }
     }
@@ -135,26 +127,23 @@ impl State {
     {
         let hold = self.hold;
         let stage = self.stage;
-        match hold {
-            Hold::Off => {
-                let status = status_byte(self.kept, self.latch);
-                let next = fall(f, array, status, stage);
-                let state = State {
-                    sck: false,
-                    stage: next,
-                    ..self
-                };
-                Moved {
-                    state,
-                    note: Note::Nothing,
-                }
+        if is_off(hold) {
+            let status = status_byte(self.kept, self.latch);
+            let next = fall(f, array, status, stage);
+            let state = State {
+                sck: false,
+                stage: next,
+                ..self
+            };
+            Moved {
+                state,
+                note: Note::Nothing,
             }
-            Hold::On(_) => {
-                let state = State { sck: false, ..self };
-                Moved {
-                    state,
-                    note: Note::Nothing,
-                }
+        } else {
+            let state = State { sck: false, ..self };
+            Moved {
+                state,
+                note: Note::Nothing,
             }
         }
     }
@@ -163,11 +152,12 @@ impl State {
         ensures { λ r. ⌜ r ≡ holdFall self ⌝ }
     {
         let stage = self.stage;
-        let cs = is_closed(stage);
-        let state = State {
-            hold: Hold::On(cs),
-            ..self
+        let hold = if is_closed(stage) {
+            Hold::OnHigh
+        } else {
+            Hold::OnLow
         };
+        let state = State { hold, ..self };
         Moved {
             state,
             note: Note::Nothing,

@@ -14,7 +14,8 @@ pub fn is_off(hold: Hold) -> bool
 {
     match hold {
         Hold::Off => true,
-        Hold::On(_) => false,
+        Hold::OnLow => false,
+        Hold::OnHigh => false,
     }
 }
 

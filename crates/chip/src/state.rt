@@ -7,10 +7,11 @@ use select::notes::Note;
 use stages::close::is_closed;
 use stages::stage::Stage;
 
-// /HOLD high, or low with the level of /CS, which is not seen then.
+// /HOLD high, or low with /CS low or high, which is not seen then.
 pub enum Hold {
     Off,
-    On(bool),
+    OnLow,
+    OnHigh,
 }
 
 // With /HOLD high the level of /CS is high exactly where no select is open, so it has no field of its own. What SO
@@ -59,7 +60,8 @@ impl State {
         let stage = self.stage;
         match hold {
             Hold::Off => is_closed(stage),
-            Hold::On(level) => level,
+            Hold::OnLow => false,
+            Hold::OnHigh => true,
         }
     }
 
@@ -71,7 +73,8 @@ impl State {
         let stage = self.stage;
         match hold {
             Hold::Off => stage_level(stage),
-            Hold::On(_) => Level::Released,
+            Hold::OnLow => Level::Released,
+            Hold::OnHigh => Level::Released,
         }
     }
 }

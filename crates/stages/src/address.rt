@@ -9,8 +9,15 @@ use crate::stage::UpperByte;
 use crate::stage::Writer;
 use parts::figures::Figure;
 
+// A byte as a page's number.
+pub fn widen(x: u8) -> u16
+    ensures { λ r. ⌜ r ≡ x ⌝ }
+{
+    x as u16
+}
+
 // The top address bit, where the op-code carries it.
-fn code_page(f: Figure, code: u8) -> u8
+fn code_page(f: Figure, code: u8) -> u16
     ensures { λ r. ⌜ r ≡ codePage f code ⌝ }
 {
     if code & f.codes.top == 0 { 0 } else { 1 }
@@ -29,14 +36,14 @@ pub fn header(f: Figure, write: bool, code: u8) -> Stage
 }
 
 // The upper address byte less the bits that are ignored.
-pub fn upper_page(f: Figure, byte: u8) -> u8
+pub fn upper_page(f: Figure, byte: u8) -> u16
     ensures { λ r. ⌜ r ≡ upperPage f byte ⌝ }
 {
-    byte & f.upper
+    widen(byte & f.upper)
 }
 
 // The stage after the whole address.
-pub fn addressed(write: bool, page: u8, byte: u8) -> Stage
+pub fn addressed(write: bool, page: u16, byte: u8) -> Stage
     ensures { λ r. ⌜ r ≡ afterAddress write page byte ⌝ }
 {
     let at = (page as usize) * 256 + (byte as usize);

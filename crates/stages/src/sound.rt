@@ -1,6 +1,7 @@
 // The part of the soundness test that looks at the stage.
 ghost use mathlib.Core.Path.{_≡_};
 ghost use Rattle.stages.specs.Sound.{soundShift, soundSource, soundStage};
+use crate::address::widen;
 use crate::stage::Shift;
 use crate::stage::Source;
 use crate::stage::Stage;
@@ -37,7 +38,7 @@ pub fn sound_stage(f: Figure, stage: Stage) -> bool
         }
         Stage::Lower(lower) => {
             let shift = lower.shift;
-            (lower.page <= f.upper) & sound_shift(shift)
+            (lower.page <= widen(f.upper)) & sound_shift(shift)
         }
         Stage::Ready(source) => sound_source(f, source),
         Stage::Showing(shown) => {

@@ -9,14 +9,14 @@ pub struct Shift {
 
 // The upper address byte, where the part has two.
 pub struct UpperByte {
-    pub write: bool,
     pub shift: Shift,
+    pub write: bool,
 }
 
 // The last address byte; page is what the address has above it.
 pub struct LowerByte {
     pub write: bool,
-    pub page: u8,
+    pub page: u16,
     pub shift: Shift,
 }
 
@@ -34,9 +34,9 @@ pub struct Shown {
 
 // A WRITE's data; whole: at least one whole byte came.
 pub struct Writer {
-    pub at: usize,
-    pub shift: Shift,
     pub whole: bool,
+    pub shift: Shift,
+    pub at: usize,
 }
 
 pub enum Stage {

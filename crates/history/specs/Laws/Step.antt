@@ -20,7 +20,7 @@ use Rattle.chip.specs.Edges.{still, csFall, csRise, sckRise, sckFall, holdFall,
 use Rattle.chip.specs.Event.{accepted, csStayed, live, step, written}
 use Rattle.chip.specs.Sound.{isOff}
 use Rattle.chip.specs.declared.state.Hold.{Hold}
-use Rattle.chip.specs.declared.state.Hold.the-variants.{Off, On}
+use Rattle.chip.specs.declared.state.Hold.the-variants.{Off, OnLow, OnHigh}
 use Rattle.history.specs.Lines.{Lines, rest, put, refused, after, act}
 use Rattle.history.specs.History.{World}
 use Rattle.history.specs.Run.{Chip, answered}
@@ -30,11 +30,13 @@ use Rattle.history.specs.Laws.Select.{Selected, closed, going, select-op
 -- the level of /CS, by /HOLD and whether no select is open
 abbrev csOf : Hold → Bool → Bool
 csOf Off seen = seen
-csOf (On level) seen = level
+csOf OnLow seen = false
+csOf OnHigh seen = true
 
 abbrev isHigh : Hold → Bool
 isHigh Off = true
-isHigh (On level) = false
+isHigh OnLow = false
+isHigh OnHigh = false
 
 abbrev pub linesOf : Bool → Bool → Bool → Hold → Bool → Lines
 linesOf sck si wp hold seen =
@@ -112,13 +114,13 @@ module _ (part : ℕ) (fair : Fair (figureOf part)) where
         → Follows (linesOf sck si wp hold (isOutside p)) p w (chipOf part v sck si wp hold stage) code
 
     cs-low : After 0
-    unfolding after refused put act placed base worldAt step live csLevel isClosed csFall written
+    unfolding after refused put act placed base worldAt step live csLevel isClosed isOff csFall written
     cs-low sck Off _ _ _ closed = on (inside []) w w sck si wp Off _ (select-fresh (figureOf part) w)
     cs-low sck Off _ _ _ (going bs whole r v stage c e) =
         let s = going bs whole r v stage c e in
         rw (select-open (figureOf part) w s) (on (inside bs) w v sck si wp Off stage s)
-    cs-low sck (On true) p v stage s = on p w v sck si wp (On false) stage s
-    cs-low sck (On false) p v stage s = on p w v sck si wp (On false) stage s
+    cs-low sck OnLow p v stage s = on p w v sck si wp OnLow stage s
+    cs-low sck OnHigh p v stage s = on p w v sck si wp OnLow stage s
 
     -- the close drops the latch, if it was set
     abbrev shut : Bool → Bool → ℕ → List ℕ → Chip
@@ -136,29 +138,31 @@ module _ (part : ℕ) (fair : Fair (figureOf part)) where
     closing sck false false kept array = on outside _ _ sck si wp Off Closed closed
 
     cs-high : After 1
-    unfolding after refused put act placed base step live csLevel isClosed csRise written
+    unfolding after refused put act placed base step live csLevel isClosed isOff csRise written
     cs-high sck Off _ _ _ closed = on outside w w sck si wp Off Closed closed
     cs-high sck Off _ _ _ (going bs whole r v stage c e) =
         let s = going bs whole r v stage c e in
         rw (select-open (figureOf part) w s, ← select-close (figureOf part) fair w s)
         (closing sck (v .latch) (drops stage) (v .kept) (v .array))
-    cs-high sck (On true) p v stage s = on p w v sck si wp (On true) stage s
-    cs-high sck (On false) p v stage s = on p w v sck si wp (On true) stage s
+    cs-high sck OnLow p v stage s = on p w v sck si wp OnHigh stage s
+    cs-high sck OnHigh p v stage s = on p w v sck si wp OnHigh stage s
 
     sck-low : After 2
-    unfolding after refused put act placed base step live sckFall written
+    unfolding after refused put act placed base step live isOff sckFall written
     sck-low true Off p v stage s =
         on p w v false si wp Off _ (select-fall (figureOf part) w (v .array) (statusByte (v .kept) (v .latch)) s)
-    sck-low true (On level) p v stage s = on p w v false si wp (On level) stage s
+    sck-low true OnLow p v stage s = on p w v false si wp OnLow stage s
+    sck-low true OnHigh p v stage s = on p w v false si wp OnHigh stage s
     sck-low false hold p v stage s = on p w v false si wp hold stage s
 
     sck-high : After 3
-    unfolding after refused put act placed base step live sckRise rise written
+    unfolding after refused put act placed base step live isOff sckRise rise written
     sck-high false Off _ _ _ closed = on outside w w true si wp Off Closed closed
     sck-high false Off _ _ _ (going bs whole r v stage c e) =
         let s = going bs whole r v stage c e in
         on _ w _ true si wp Off _ (select-rise (figureOf part) fair w (record { si = si; wp = wp }) s)
-    sck-high false (On level) p v stage s = on p w v true si wp (On level) stage s
+    sck-high false OnLow p v stage s = on p w v true si wp OnLow stage s
+    sck-high false OnHigh p v stage s = on p w v true si wp OnHigh stage s
     sck-high true hold p v stage s = on p w v true si wp hold stage s
 
     si-low : After 4
@@ -170,24 +174,28 @@ module _ (part : ℕ) (fair : Fair (figureOf part)) where
     si-high sck hold p v stage s = on p w v sck true wp hold stage s
 
     hold-low : After 6
-    unfolding after refused put act placed base step live isOff holdFall written
+    unfolding after refused put act placed base step live isOff isClosed holdFall written
     hold-low true Off p v stage s = on p w v true si wp Off stage s
-    hold-low false Off p v stage s =
-        rw (select-open (figureOf part) w s) (on p w v false si wp (On (isOutside p)) stage s)
-    hold-low sck (On level) p v stage s = on p w v sck si wp (On level) stage s
+    hold-low false Off _ _ _ closed = on outside w w false si wp OnHigh Closed closed
+    hold-low false Off _ _ _ (going bs whole r v stage c e) =
+        let s = going bs whole r v stage c e in
+        rw (select-open (figureOf part) w s) (on (inside bs) w v false si wp OnLow stage s)
+    hold-low sck OnLow p v stage s = on p w v sck si wp OnLow stage s
+    hold-low sck OnHigh p v stage s = on p w v sck si wp OnHigh stage s
 
     hold-high : After 7
     unfolding after refused put act placed base step live isOff csStayed csLevel isClosed holdRise written
     hold-high sck Off p v stage s = on p w v sck si wp Off stage s
-    hold-high true (On level) p v stage s = on p w v true si wp (On level) stage s
-    hold-high false (On true) _ _ _ closed = on outside w w false si wp Off Closed closed
-    hold-high false (On false) _ _ _ closed = on outside w w false si wp (On false) Closed closed
-    hold-high false (On true) _ _ _ (going bs whole r v stage c e) =
-        let s = going bs whole r v stage c e in
-        rw (select-open (figureOf part) w s) (on (inside bs) w v false si wp (On true) stage s)
-    hold-high false (On false) _ _ _ (going bs whole r v stage c e) =
+    hold-high true OnLow p v stage s = on p w v true si wp OnLow stage s
+    hold-high true OnHigh p v stage s = on p w v true si wp OnHigh stage s
+    hold-high false OnLow _ _ _ closed = on outside w w false si wp OnLow Closed closed
+    hold-high false OnHigh _ _ _ closed = on outside w w false si wp Off Closed closed
+    hold-high false OnLow _ _ _ (going bs whole r v stage c e) =
         let s = going bs whole r v stage c e in
         rw (select-open (figureOf part) w s) (on (inside bs) w v false si wp Off stage s)
+    hold-high false OnHigh _ _ _ (going bs whole r v stage c e) =
+        let s = going bs whole r v stage c e in
+        rw (select-open (figureOf part) w s) (on (inside bs) w v false si wp OnHigh stage s)
 
     wp-low : After 8
     unfolding after refused put act placed base step live written

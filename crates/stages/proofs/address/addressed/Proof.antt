@@ -1,4 +1,4 @@
--- The address is below 256 pages of 256 bytes, so it fits; WRITE and READ part after it.
+-- The address is below 65536 pages of 256 bytes, so it fits; WRITE and READ part after it.
 use Rattle.stages.specs.Address.{afterAddress}
 use borrow.Author.Needs.{needs}
 use Rattle.stages.proofs.address.addressed.Statement.{statement}

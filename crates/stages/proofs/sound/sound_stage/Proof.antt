@@ -22,6 +22,9 @@ sound-shift-requires-2 c κs = search needs
 enum-known-stage-3 : tie.Need-enum-known-stage-3
 enum-known-stage-3 c = search needs
 
+widen-requires : tie.Need-widen-requires
+widen-requires c κs = search needs
+
 sound-shift-requires-3 : tie.Need-sound-shift-requires-3
 sound-shift-requires-3 c κs = search needs
 
@@ -66,7 +69,7 @@ returns-3 c = simp (c .sound-shift2 .ensures, c .before .before .before .before 
 
 returns-4 : tie.Need-returns-4
 unfolding soundStage
-returns-4 c = simp (c .sound-shift3 .ensures, c .before .before .before .before .before .stage3 .given .1)
+returns-4 c = simp (c .sound-shift3 .ensures, c .before .before .widen .ensures, c .before .before .before .before .before .stage3 .given .1)
 
 returns-5 : tie.Need-returns-5
 unfolding soundStage
@@ -98,6 +101,7 @@ sound-stage-spec =
     enum-known-stage-2
     sound-shift-requires-2
     enum-known-stage-3
+    widen-requires
     sound-shift-requires-3
     enum-known-stage-4
     sound-source-requires

@@ -9,7 +9,11 @@ is-closed-requires c κs = search needs
 
 returns : tie.Need-returns
 unfolding holdFall
-returns c = simp (c .is-closed .ensures)
+returns c = simp (← c .before .is-closed .ensures, c .if1 .taken)
+
+returns-2 : tie.Need-returns-2
+unfolding holdFall
+returns-2 c = simp (← c .before .is-closed .ensures, c .if1 .left)
 
 pub hold-fall-spec : {M : Type 1} → statement M
-hold-fall-spec = tie.close (tie.spec is-closed-requires returns)
+hold-fall-spec = tie.close (tie.spec is-closed-requires returns returns-2)
