@@ -1,5 +1,6 @@
 // The stage of a select. Each stage holds what it needs and no more, so that little can be written down that no
 // clocks give. Stages that take bits count seen rises; those that show bits count seen falls.
+// The order of the fields and the width of the page are chosen for speed (docs/SPEED.md): time a change of either.
 
 // The bits of a byte that came so far, the newest lowest.
 pub struct Shift {

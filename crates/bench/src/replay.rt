@@ -1,0 +1,156 @@
+// The run: from a trace to the report on standard output.
+ghost use Prim.Native.Nat.{_≤_};
+use crate::head::Head;
+use crate::head::head_of;
+use crate::stand::Stand;
+use chip::event::event;
+use chip::power::fill;
+use chip::power::power_up;
+use chip::state::State;
+use chip::watch::is_open;
+use libc::STDIN_FILENO;
+use libc::STDOUT_FILENO;
+use parts::figures::figure_of;
+use report::items::event_of;
+use report::items::events_of;
+use report::lines::end_line;
+use report::lines::part_line;
+use report::lines::select_line;
+use trace::answer::Read;
+use trace::answer::number_of;
+use trace::reader::number_at;
+
+// The largest array of a part.
+const LARGEST: usize = 2048;
+
+// What stands on the bench after some events, and the refusal that stopped them, or 0.
+pub struct Turn {
+    pub refusal: u8,
+    pub stand: Stand,
+}
+
+// Prints the line of the last select.
+fn tell_select(stand: Stand, shown: &[u8; 64]) {
+    let mut line = [0u8; 256];
+    let n = select_line(&mut line, stand.selects, stand.told, shown);
+    io::write_all(STDOUT_FILENO, &line[..n]);
+}
+
+// Prints line 1.
+fn tell_part(part: u64, size: u64, kept: u8) {
+    let mut line = [0u8; 256];
+    let n = part_line(&mut line, part, size, kept);
+    io::write_all(STDOUT_FILENO, &line[..n]);
+}
+
+// Prints the last line.
+fn tell_end(chip: State, refusal: u8) {
+    let mut line = [0u8; 256];
+    let n = end_line(&mut line, chip.kept, chip.latch, refusal);
+    io::write_all(STDOUT_FILENO, &line[..n]);
+}
+
+// One event. A select that it closes has its line printed.
+fn take_event(stand: Stand, array: &mut [u8], shown: &mut [u8; 64], code: u64) -> Turn {
+    let chip = stand.chip;
+    let answer = event(chip, array, code);
+    if answer.refusal != 0 {
+        return Turn {
+            refusal: answer.refusal,
+            stand,
+        };
+    }
+    let next = answer.state;
+    let after = stand.after(code, answer, shown);
+    if stand.closes(next) {
+        tell_select(after, shown);
+    }
+    Turn {
+        refusal: 0,
+        stand: after,
+    }
+}
+
+// One item: its events, up to the first that is refused.
+fn take_item(stand: Stand, array: &mut [u8], shown: &mut [u8; 64], item: u64) -> Turn
+    requires { ⌜ item ≤ 267 ⌝ }
+{
+    let events = events_of(item);
+    let mut turn = Turn { refusal: 0, stand };
+    let mut k = 0;
+    while k < events {
+        turn = take_event(turn.stand, array, shown, event_of(item, k));
+        if turn.refusal != 0 {
+            return turn;
+        }
+        k += 1;
+    }
+    turn
+}
+
+// The items from `at` on, up to the end or the first refusal.
+fn take_items(
+    trace: &[u8],
+    at: usize,
+    stand: Stand,
+    array: &mut [u8],
+    shown: &mut [u8; 64],
+) -> Turn {
+    let mut turn = Turn { refusal: 0, stand };
+    let mut place = at;
+    while turn.refusal == 0 {
+        match number_at(trace, place) {
+            Read::Number { value, next } => {
+                turn = take_item(turn.stand, array, shown, value);
+                place = next;
+            }
+            Read::End { at: _ } => {
+                return turn;
+            }
+            Read::Refused { refusal, at: _ } => {
+                turn.refusal = number_of(refusal);
+                return turn;
+            }
+        }
+    }
+    turn
+}
+
+// From power-up on, with an array of the part's size.
+fn run(trace: &[u8], lead: Head, array: &mut [u8]) {
+    fill(lead.part, array);
+    let powered = power_up(lead.part, lead.kept, array);
+    let chip = powered.state;
+    if powered.refusal != 0 {
+        tell_end(chip, powered.refusal);
+        return;
+    }
+    tell_part(lead.part, array.len() as u64, chip.kept);
+    let mut shown = [0u8; 64];
+    let turn = take_items(trace, lead.items, Stand::new(chip), array, &mut shown);
+    let stand = turn.stand;
+    let last = stand.chip;
+    if is_open(last) {
+        tell_select(stand, &shown);
+    }
+    tell_end(last, turn.refusal);
+}
+
+// Prints the report of a trace.
+pub fn replay(trace: &[u8]) {
+    let lead = head_of(trace);
+    if lead.refusal != 0 {
+        tell_end(State::at_rest(1, 0, false), lead.refusal);
+        return;
+    }
+    let mut array = [0u8; LARGEST];
+    let size = figure_of(lead.part).size;
+    run(trace, lead, &mut array[..size]);
+}
+
+// "It reads a trace from standard input, up to 32,768 bytes, as if the input ended there."
+pub fn replay_input() {
+    let mut input = [0u8; 32768];
+    let n = io::read_full(STDIN_FILENO, &mut input);
+    replay(&input[..n]);
+}

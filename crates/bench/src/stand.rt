@@ -1,0 +1,72 @@
+// What stands on the bench: the chip, how many selects it saw, and the record of the last of them.
+ghost use mathlib.Core.Path.{_≡_};
+ghost use Rattle.bench.specs.Stand.{opens, closes, begun, clockedBy, shownBy, after};
+use chip::event::Answer;
+use chip::state::State;
+use chip::watch::is_open;
+use chip::watch::sees_rise;
+use report::record::Record;
+use report::record::count;
+
+pub struct Stand {
+    pub chip: State,
+    pub selects: u64,
+    pub told: Record,
+}
+
+impl Stand {
+    // A chip that no event came to.
+    pub fn new(chip: State) -> Stand
+        ensures { λ r. ⌜ r ≡ begun chip ⌝ }
+    {
+        Stand {
+            chip,
+            selects: 0,
+            told: Record::new(),
+        }
+    }
+
+    // Whether the select that was open is open no more.
+    pub fn closes(self, next: State) -> bool
+        ensures { λ r. ⌜ r ≡ closes (self .chip) next ⌝ }
+    {
+        let chip = self.chip;
+        is_open(chip) & !is_open(next)
+    }
+
+    // The record after an event: a seen rise takes SI and SO as they stood before it.
+    fn clocked(self, code: u64, shown: &mut [u8; 64]) -> Record
+        ensures { λ r. ⌜ r ≡ clockedBy self code ⌝ }
+        ensures { λ _. ⌜ now (shown .exit) ≡ shownBy (now (shown .entry)) self code ⌝ }
+    {
+        let chip = self.chip;
+        let told = self.told;
+        if sees_rise(chip, code) {
+            return told.rise(chip.si, chip.so(), shown);
+        }
+        told
+    }
+
+    // After an accepted event.
+    pub fn after(self, code: u64, answer: Answer, shown: &mut [u8; 64]) -> Stand
+        ensures { λ r. ⌜ r ≡ after self code answer ⌝ }
+        ensures { λ _. ⌜ now (shown .exit) ≡ shownBy (now (shown .entry)) self code ⌝ }
+    {
+        let chip = self.chip;
+        let next = answer.state;
+        let note = answer.note;
+        let told = self.clocked(code, shown).note(note);
+        if !is_open(chip) & is_open(next) {
+            return Stand {
+                chip: next,
+                selects: count(self.selects),
+                told: Record::new(),
+            };
+        }
+        Stand {
+            chip: next,
+            selects: self.selects,
+            told,
+        }
+    }
+}

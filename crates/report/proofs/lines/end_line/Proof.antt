@@ -1,0 +1,86 @@
+use mathlib.Core.Path.{sym}
+use Prim.Native.Nat.{_≤_}
+use native.Mathlib.Omega.{arith}
+use lib.ListN.{length}
+use lib.Seq.{length-take-le}
+use Rattle.report.specs.Lines.{endLine}
+use Rattle.report.proofs.Pieces.{on, line}
+use borrow.Author.Needs.{needs}
+use Rattle.report.proofs.lines.end_line.Statement.{statement}
+use Rattle.report.proofs.lines.end_line.Tie as tie
+use Rattle.report.proofs.lines.end_line.Reads as reads
+use Rattle.report.proofs.lines.end_line.Lts as lts
+use Rattle.report.proofs.lines.put_latch.Reads as put-latch-reads
+use Rattle.report.proofs.text.put.Reads as put-reads
+use Rattle.report.proofs.text.put_decimal.Reads as put-decimal-reads
+use Rattle.report.proofs.text.put_hex.Reads as put-hex-reads
+
+-- src/lines.rt:93:26
+slice-aggregate-put : tie.Need-slice-aggregate-put
+slice-aggregate-put c = search needs
+
+-- src/lines.rt:93:9
+put-requires : tie.Need-put-requires
+put-requires c κs = search needs
+
+-- src/lines.rt:94:9
+put-hex-requires : tie.Need-put-hex-requires
+put-hex-requires c κs = search needs
+
+-- src/lines.rt:95:27
+slice-aggregate-put-2 : tie.Need-slice-aggregate-put-2
+slice-aggregate-put-2 c = search needs
+
+-- src/lines.rt:95:9
+put-requires-2 : tie.Need-put-requires-2
+put-requires-2 c κs = search needs
+
+-- src/lines.rt:96:9
+put-latch-requires : tie.Need-put-latch-requires
+put-latch-requires c κs = search needs
+
+-- src/lines.rt:97:27
+slice-aggregate-put-3 : tie.Need-slice-aggregate-put-3
+slice-aggregate-put-3 c = search needs
+
+-- src/lines.rt:97:9
+put-requires-3 : tie.Need-put-requires-3
+put-requires-3 c κs = search needs
+
+-- src/lines.rt:98:9
+put-decimal-requires : tie.Need-put-decimal-requires
+put-decimal-requires c κs = search needs
+
+-- src/lines.rt:99:18
+slice-aggregate-put-4 : tie.Need-slice-aggregate-put-4
+slice-aggregate-put-4 c = search needs
+
+-- src/lines.rt:99:5
+put-requires-4 : tie.Need-put-requires-4
+put-requires-4 c κs = search needs
+
+-- src/lines.rt:89:1
+returns : tie.Need-returns
+unfolding endLine
+returns c =
+    let within : c .put4 .result ≤ length (c .put4 .last .0) = omega (arith, c .put4 .kept .0, c .before .before .put-arg7 .given .0 .1) in (
+      (within, sym (length-take-le _ _ within)),
+      line (on (on (on (on (on (on (c .before .before .before .before .before .before .before .before .before .before .before .before .before .before .before .put .ensures .1) (c .before .before .before .before .before .before .before .before .before .before .before .before .before .put-hex .ensures .1)) (c .before .before .before .before .before .before .before .before .before .before .put2 .ensures .1)) (c .before .before .before .before .before .before .before .before .put-latch .ensures .1)) (c .before .before .before .before .before .put3 .ensures .1)) (c .before .before .before .put-decimal .ensures .1)) (c .put4 .ensures .1)),
+    )
+
+pub end-line-spec : {M : Type 1} → statement M
+end-line-spec =
+    tie.close
+    (tie.spec
+    slice-aggregate-put
+    put-requires
+    put-hex-requires
+    slice-aggregate-put-2
+    put-requires-2
+    put-latch-requires
+    slice-aggregate-put-3
+    put-requires-3
+    put-decimal-requires
+    slice-aggregate-put-4
+    put-requires-4
+    returns)

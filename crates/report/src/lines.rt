@@ -1,0 +1,109 @@
+// The lines of the report.
+ghost use mathlib.Core.Path.{_≡_};
+ghost use Prim.Native.Nat.{_+_, _≤_};
+ghost use lib.ListN.{length, take};
+ghost use Rattle.io.specs.Counts.{Counts};
+ghost use Rattle.report.specs.Text.{Adds};
+ghost use Rattle.report.specs.Lines.{codeText, shownText, latchText, partLine, countsText, selectLine, endLine};
+use crate::record::Record;
+use crate::text::put;
+use crate::text::put_decimal;
+use crate::text::put_hex;
+use crate::text::put_hexes;
+
+// "op-code in hex, or "--" under eight clocks".
+fn put_code(out: &mut [u8; 256], at: usize, clocks: u64, code: u8) -> usize
+    requires { ⌜ at + 2 ≤ 256 ⌝ }
+    ensures { λ r. ⌜ r ≡ at + 2 ⌝ }
+    ensures { λ r. ⌜ Adds (take at (now (out .entry))) (codeText clocks code) (take r (now (out .exit))) ⌝ }
+{
+    if clocks < 8 {
+        return put(out, at, b"--");
+    }
+    put_hex(out, at, code)
+}
+
+// The whole bytes of SO, the first 64 of which the buffer has.
+fn put_shown(out: &mut [u8; 256], at: usize, shown: &[u8], whole: u64) -> usize
+    requires { ⌜ at + 129 ≤ 256 ⌝ }
+    requires { ⌜ length (now shown) ≡ 64 ⌝ }
+    ensures { λ r. ⌜ r ≤ at + 129 ⌝ }
+    ensures { λ r. ⌜ Adds (take at (now (out .entry))) (shownText (now (shown .entry)) whole) (take r (now (out .exit))) ⌝ }
+{
+    if whole == 0 {
+        return put(out, at, b"-");
+    }
+    if whole <= 64 {
+        let n = whole as usize;
+        return put_hexes(out, at, &shown[..n]);
+    }
+    let next = put_hexes(out, at, shown);
+    put(out, next, b"+")
+}
+
+// The latch, 0 or 1.
+fn put_latch(out: &mut [u8; 256], at: usize, latch: bool) -> usize
+    requires { ⌜ at + 1 ≤ 256 ⌝ }
+    ensures { λ r. ⌜ r ≡ at + 1 ⌝ }
+    ensures { λ r. ⌜ Adds (take at (now (out .entry))) (latchText latch) (take r (now (out .exit))) ⌝ }
+{
+    if latch {
+        return put(out, at, b"1");
+    }
+    put(out, at, b"0")
+}
+
+// "Line 1: part, size, kept bits in hex".
+pub fn part_line(out: &mut [u8; 256], part: u64, size: u64, kept: u8) -> usize
+    ensures { λ r. ⌜ Counts r (now (out .exit)) ⌝ }
+    ensures { λ r. ⌜ take r (now (out .exit)) ≡ partLine part size kept ⌝ }
+{
+    let at = put(out, 0, b"part ");
+    let at = put_decimal(out, at, part);
+    let at = put(out, at, b" bytes ");
+    let at = put_decimal(out, at, size);
+    let at = put(out, at, b" kept ");
+    let at = put_hex(out, at, kept);
+    put(out, at, b"\n")
+}
+
+// The op-code, seen rises and stored notes of a select.
+fn put_counts(out: &mut [u8; 256], at: usize, told: Record) -> usize
+    requires { ⌜ at + 62 ≤ 256 ⌝ }
+    ensures { λ r. ⌜ r ≤ at + 62 ⌝ }
+    ensures { λ r. ⌜ Adds (take at (now (out .entry))) (countsText told) (take r (now (out .exit))) ⌝ }
+{
+    let at = put(out, at, b" op ");
+    let at = put_code(out, at, told.clocks, told.code);
+    let at = put(out, at, b" clocks ");
+    let at = put_decimal(out, at, told.clocks);
+    let at = put(out, at, b" stored ");
+    put_decimal(out, at, told.stored)
+}
+
+// A select's line, by its number, its record and the first bytes of SO.
+pub fn select_line(out: &mut [u8; 256], number: u64, told: Record, shown: &[u8; 64]) -> usize
+    ensures { λ r. ⌜ Counts r (now (out .exit)) ⌝ }
+    ensures { λ r. ⌜ take r (now (out .exit)) ≡ selectLine number told (now (shown .entry)) ⌝ }
+{
+    let at = put(out, 0, b"sel ");
+    let at = put_decimal(out, at, number);
+    let at = put(out, at, b" so ");
+    let at = put_shown(out, at, shown, told.shown);
+    let at = put_counts(out, at, told);
+    put(out, at, b"\n")
+}
+
+// "Last line: kept bits in hex (00 before power-up), latch (0 before power-up), refusal."
+pub fn end_line(out: &mut [u8; 256], kept: u8, latch: bool, refusal: u8) -> usize
+    ensures { λ r. ⌜ Counts r (now (out .exit)) ⌝ }
+    ensures { λ r. ⌜ take r (now (out .exit)) ≡ endLine kept latch refusal ⌝ }
+{
+    let at = put(out, 0, b"end kept ");
+    let at = put_hex(out, at, kept);
+    let at = put(out, at, b" latch ");
+    let at = put_latch(out, at, latch);
+    let at = put(out, at, b" refused ");
+    let at = put_decimal(out, at, refusal as u64);
+    put(out, at, b"\n")
+}

@@ -1,0 +1,118 @@
+// A select's record: what its line tells, by value; beside it, in a lent buffer, the first bytes of SO.
+ghost use mathlib.Core.Path.{_≡_};
+ghost use Rattle.report.specs.Record.{counted, sampled, codeAfter, keptAt, fresh, risen, shownAfter, noted};
+use select::notes::Level;
+use select::notes::Note;
+use stages::bits::Taken;
+use stages::bits::no_bits;
+use stages::bits::take_bit;
+use stages::stage::Shift;
+
+pub struct Record {
+    // Seen rises.
+    pub clocks: u64,
+    // The op-code's bits, as far as they came, the newest lowest.
+    pub code: u8,
+    // The bits of SO that are no whole byte yet, and how many whole bytes there were.
+    pub sample: Shift,
+    pub shown: u64,
+    // Stored notes.
+    pub stored: u64,
+}
+
+// One more. A count stops at the largest number that it can hold; no trace comes near it.
+pub fn count(n: u64) -> u64
+    ensures { λ r. ⌜ r ≡ counted n ⌝ }
+{
+    if n < 0xFFFF_FFFF_FFFF_FFFF { n + 1 } else { n }
+}
+
+// SO's bits with one more, where SO is driven.
+fn sample(bits: Shift, so: Level) -> Taken
+    ensures { λ r. ⌜ r ≡ sampled bits so ⌝ }
+{
+    match so {
+        Level::Low => take_bit(bits, false),
+        Level::High => take_bit(bits, true),
+        Level::Released => Taken::Part(bits),
+    }
+}
+
+// The op-code's bits with one more; the first eight rises have them.
+fn code_after(clocks: u64, code: u8, si: bool) -> u8
+    ensures { λ r. ⌜ r ≡ codeAfter clocks code si ⌝ }
+{
+    if 8 <= clocks {
+        return code;
+    }
+    if si { (code << 1) | 1 } else { (code << 1) | 0 }
+}
+
+// The byte at its place; a byte that the buffer has no place for is not kept.
+fn keep(shown: &mut [u8; 64], at: u64, byte: u8)
+    ensures { λ _. ⌜ now (shown .exit) ≡ keptAt (now (shown .entry)) at byte ⌝ }
+{
+    if at < 64 {
+        shown[at as usize] = byte;
+    }
+}
+
+impl Record {
+    // A select that no rise was seen in.
+    pub fn new() -> Record
+        ensures { λ r. ⌜ r ≡ fresh ⌝ }
+    {
+        Record {
+            clocks: 0,
+            code: 0,
+            sample: no_bits(),
+            shown: 0,
+            stored: 0,
+        }
+    }
+
+    // After a seen rise, with SI and SO as they stood before it.
+    pub fn rise(self, si: bool, so: Level, shown: &mut [u8; 64]) -> Record
+        ensures { λ r. ⌜ r ≡ risen self si so ⌝ }
+        ensures { λ _. ⌜ now (shown .exit) ≡ shownAfter (now (shown .entry)) self so ⌝ }
+    {
+        let clocks = count(self.clocks);
+        let code = code_after(self.clocks, self.code, si);
+        match sample(self.sample, so) {
+            Taken::Part(sample) => Record {
+                clocks,
+                code,
+                sample,
+                ..self
+            },
+            Taken::Whole(byte) => {
+                keep(shown, self.shown, byte);
+                Record {
+                    clocks,
+                    code,
+                    sample: no_bits(),
+                    shown: count(self.shown),
+                    stored: self.stored,
+                }
+            }
+        }
+    }
+
+    // After a note.
+    pub fn note(self, note: Note) -> Record
+        ensures { λ r. ⌜ r ≡ noted self note ⌝ }
+    {
+        match note {
+            Note::Nothing => self,
+            Note::Latch(_) => self,
+            Note::Stored(_, _) => Record {
+                stored: count(self.stored),
+                ..self
+            },
+            Note::HeldBack(_, _) => self,
+            Note::KeptSet(_) => self,
+            Note::KeptHeldBack(_) => self,
+            Note::PowerLost => self,
+        }
+    }
+}

@@ -1,0 +1,84 @@
+// Pieces of a line, put one after the other into a lent buffer: each call puts its text at a place and
+// answers the place after it.
+ghost use mathlib.Core.Path.{_≡_};
+ghost use Prim.Native.Nat.{_+_, _*_, _≤_, _<_};
+ghost use lib.ListN.{getD, length, take};
+ghost use Rattle.report.specs.Text.{Adds, capitals, hex, hexes, decimal};
+
+// "Hex is two capital digits a byte".
+const CAPITALS: [u8; 16] = [
+    b'0',
+    b'1',
+    b'2',
+    b'3',
+    b'4',
+    b'5',
+    b'6',
+    b'7',
+    b'8',
+    b'9',
+    b'A',
+    b'B',
+    b'C',
+    b'D',
+    b'E',
+    b'F',
+];
+
+// The capital digit of a number below 16.
+fn capital(n: usize) -> u8
+    requires { ⌜ n < 16 ⌝ }
+    ensures { λ r. ⌜ r ≡ getD capitals n 0 ⌝ }
+{
+    CAPITALS[n]
+}
+
+pub fn put(out: &mut [u8], at: usize, text: &[u8]) -> usize
+    requires { ⌜ at + length (now text) ≤ length (now out) ⌝ }
+    ensures { λ r. ⌜ r ≡ at + length (now (text .entry)) ⌝ }
+    ensures { λ r. ⌜ Adds (take at (now (out .entry))) (now (text .entry)) (take r (now (out .exit))) ⌝ }
+{
+    let mut i = 0;
+    while i < text.len() {
+        out[at + i] = text[i];
+        i += 1;
+    }
+    at + i
+}
+
+// The two digits of a byte.
+pub fn put_hex(out: &mut [u8; 256], at: usize, byte: u8) -> usize
+    requires { ⌜ at + 2 ≤ 256 ⌝ }
+    ensures { λ r. ⌜ r ≡ at + 2 ⌝ }
+    ensures { λ r. ⌜ Adds (take at (now (out .entry))) (hex byte) (take r (now (out .exit))) ⌝ }
+{
+    let high = capital((byte >> 4) as usize);
+    let low = capital((byte & 0x0F) as usize);
+    put(out, at, &[high, low])
+}
+
+// The digits of bytes, "with no spaces between bytes".
+pub fn put_hexes(out: &mut [u8; 256], at: usize, bytes: &[u8]) -> usize
+    requires { ⌜ at + 2 * length (now bytes) ≤ 256 ⌝ }
+    ensures { λ r. ⌜ r ≡ at + 2 * length (now (bytes .entry)) ⌝ }
+    ensures { λ r. ⌜ Adds (take at (now (out .entry))) (hexes (now (bytes .entry))) (take r (now (out .exit))) ⌝ }
+{
+    let mut next = at;
+    let mut i = 0;
+    while i < bytes.len() {
+        next = put_hex(out, next, bytes[i]);
+        i += 1;
+    }
+    next
+}
+
+// "other numbers are decimal".
+pub fn put_decimal(out: &mut [u8; 256], at: usize, n: u64) -> usize
+    requires { ⌜ at + 20 ≤ 256 ⌝ }
+    ensures { λ r. ⌜ r ≤ at + 20 ⌝ }
+    ensures { λ r. ⌜ Adds (take at (now (out .entry))) (decimal n) (take r (now (out .exit))) ⌝ }
+{
+    let mut digits = [0u8; 20];
+    let k = io::decimal(n, &mut digits);
+    put(out, at, &digits[..k])
+}
