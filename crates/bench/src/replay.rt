@@ -72,9 +72,7 @@ fn take_event(stand: Stand, array: &mut [u8], shown: &mut [u8; 64], code: u64) -
 }
 
 // One item: its events, up to the first that is refused.
-fn take_item(stand: Stand, array: &mut [u8], shown: &mut [u8; 64], item: u64) -> Turn
-    requires { ⌜ item ≤ 267 ⌝ }
-{
+fn take_item(stand: Stand, array: &mut [u8], shown: &mut [u8; 64], item: u64) -> Turn {
     let events = events_of(item);
     let mut turn = Turn { refusal: 0, stand };
     let mut k = 0;

@@ -1,6 +1,6 @@
 // The items of a trace as events.
 ghost use mathlib.Core.Path.{_≡_};
-ghost use Prim.Native.Nat.{_<_, _≤_};
+ghost use Prim.Native.Nat.{_<_};
 ghost use lib.ListN.{getD, length};
 ghost use Rattle.report.specs.Items.{clocked, itemEvents};
 
@@ -8,12 +8,12 @@ ghost use Rattle.report.specs.Items.{clocked, itemEvents};
 const CLOCKED: u64 = 24;
 
 // Event number `k` of a data byte. Bit 7 is sent first.
-fn data_event(byte: u8, k: u64) -> u64
+fn data_event(byte: u64, k: u64) -> u64
     requires { ⌜ k < 24 ⌝ }
     ensures { λ r. ⌜ r ≡ getD (clocked byte) k 0 ⌝ }
 {
     match k % 3 {
-        0 => 4 + (((byte >> (7 - k / 3)) & 1) as u64),
+        0 => 4 + ((byte >> (7 - k / 3)) & 1),
         1 => 3,
         _ => 2,
     }
@@ -21,21 +21,20 @@ fn data_event(byte: u8, k: u64) -> u64
 
 // How many events an item is.
 pub fn events_of(item: u64) -> u64
-    requires { ⌜ item ≤ 267 ⌝ }
     ensures { λ r. ⌜ r ≡ length (itemEvents item) ⌝ }
 {
     if item < 12 { 1 } else { CLOCKED }
 }
 
-// Event number `k` of an item.
+// Event number `k` of an item; 0 where the item has no such event.
 pub fn event_of(item: u64, k: u64) -> u64
-    requires { ⌜ item ≤ 267 ⌝ }
-    requires { ⌜ k < length (itemEvents item) ⌝ }
     ensures { λ r. ⌜ r ≡ getD (itemEvents item) k 0 ⌝ }
 {
-    if item < 12 {
-        item
-    } else {
-        data_event((item - 12) as u8, k)
+    if events_of(item) <= k {
+        return 0;
     }
+    if item < 12 {
+        return item;
+    }
+    data_event(item - 12, k)
 }

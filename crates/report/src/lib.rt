@@ -3,4 +3,4 @@
 pub mod items;
 pub mod lines;
 pub mod record;
-pub mod text;
+mod text;

@@ -1,26 +1,20 @@
+-- The first refusal of the two numbers, then the part and the kept bits, in this order.
 use borrow.Author.Tests.{eq-eqb, ne-eqb}
 use Rattle.bench.specs.Head.{headOf}
 use borrow.Author.Needs.{needs}
 use Rattle.bench.proofs.head.head_of.Statement.{statement}
 use Rattle.bench.proofs.head.head_of.Tie as tie
-use Rattle.bench.proofs.head.head_of.Reads as reads
-use Rattle.bench.proofs.head.head_of.Lts as lts
-use Rattle.bench.proofs.head.lead_at.Reads as lead-at-reads
 
--- src/head.rt:50:9
 lead-at-requires : tie.Need-lead-at-requires
 lead-at-requires c κs = search needs
 
--- src/head.rt:52:9
 returns : tie.Need-returns
 unfolding headOf
 returns c = simp (← c .before .before .lead-at .ensures, ne-eqb _ _ (c .if1 .taken))
 
--- src/head.rt:59:9
 lead-at-requires-2 : tie.Need-lead-at-requires-2
 lead-at-requires-2 c κs = search needs
 
--- src/head.rt:47:1
 returns-2 : tie.Need-returns-2
 unfolding headOf
 returns-2 c = simp (c .lead-at2 .ensures, ← c .before .before .before .lead-at .ensures, eq-eqb _ _ (c .before .if1 .left))

@@ -1,3 +1,4 @@
+-- What stands at a place: a number, the end, which is refusal 8, or a refusal.
 use mathlib.Core.Path.{sym, ap, _∙_}
 use Rattle.trace.specs.Answers.{readTold}
 use Rattle.bench.specs.Head.{leadOf}
@@ -5,42 +6,30 @@ use Rattle.bench.specs.Head.{leading}
 use borrow.Author.Needs.{needs}
 use Rattle.bench.proofs.head.lead_at.Statement.{statement}
 use Rattle.bench.proofs.head.lead_at.Tie as tie
-use Rattle.bench.proofs.head.lead_at.Reads as reads
-use Rattle.bench.proofs.head.lead_at.Lts as lts
-use Rattle.trace.proofs.answer.number_of.Reads as number-of-reads
-use Rattle.trace.proofs.reader.number_at.Reads as number-at-reads
 
--- src/head.rt:27:11
 number-at-requires : tie.Need-number-at-requires
 number-at-requires c κs = search needs
 
--- src/head.rt:28:24
 enum-known-value : tie.Need-enum-known-value
 enum-known-value c = search needs
 
--- src/head.rt:33:21
 enum-known-at : tie.Need-enum-known-at
 enum-known-at c = search needs
 
--- src/head.rt:38:25
 enum-known-refusal : tie.Need-enum-known-refusal
 enum-known-refusal c = search needs
 
--- src/head.rt:39:22
 number-of-requires : tie.Need-number-of-requires
 number-of-requires c κs = search needs
 
--- src/head.rt:24:1
 returns : tie.Need-returns
 unfolding leading
 returns c = ap leadOf (sym (ap readTold (c .before .value .given .1)) ∙ c .before .before .before .number-at .ensures)
 
--- src/head.rt:24:1
 returns-2 : tie.Need-returns-2
 unfolding leading
 returns-2 c = ap leadOf (sym (ap readTold (c .before .at .given .1)) ∙ c .before .before .before .number-at .ensures)
 
--- src/head.rt:24:1
 returns-3 : tie.Need-returns-3
 unfolding leading
 returns-3 c = rw (c .number-of .ensures) (ap leadOf (sym (ap readTold (c .before .before .refusal .given .1)) ∙ c .before .before .before .before .number-at .ensures))

@@ -1,3 +1,4 @@
+-- Of each three events the first puts SI to the bit that is due, the second raises SCK, the third lowers it.
 use Prim.Native.Nat.{_-_, _/_, _^_}
 use native.Mathlib.Omega.{arith}
 use lib.Bits.{and-le-r}
@@ -9,14 +10,8 @@ use Rattle.report.proofs.items.data_event.Tie as tie
 sub-result : tie.Need-sub-result
 sub-result c = search needs
 
-cast-result : tie.Need-cast-result
-cast-result c = search needs
-
 shr-result : tie.Need-shr-result
 shr-result c = search needs
-
-cast-result-2 : tie.Need-cast-result-2
-cast-result-2 c = omega (arith, and-le-r (c .before .args .byte / 2 ^ (7 - c .before .args .k / 3)) 1)
 
 add-result : tie.Need-add-result
 add-result c = omega (arith, and-le-r (c .before .args .byte / 2 ^ (7 - c .before .args .k / 3)) 1)
@@ -35,9 +30,7 @@ data-event-spec =
     tie.close
     (tie.spec
     sub-result
-    cast-result
     shr-result
-    cast-result-2
     add-result
     returns
     returns-2

@@ -1,19 +1,16 @@
+-- One event, or eight times three.
 use Rattle.report.specs.Items.{clocked, itemEvents}
-use borrow.Author.Tests.{le-leb, le-ltb, lt-leb, lt-ltb}
+use borrow.Author.Tests.{le-ltb, lt-ltb}
 use Rattle.report.proofs.items.events_of.Statement.{statement}
 use Rattle.report.proofs.items.events_of.Tie as tie
-use Rattle.report.proofs.items.events_of.Reads as reads
-use Rattle.report.proofs.items.events_of.Lts as lts
 
--- src/items.rt:23:1
 returns : tie.Need-returns
 unfolding itemEvents
-returns c = simp (lt-ltb _ _ (c .if1 .taken), lt-leb _ _ (c .if1 .taken))
+returns c = simp (lt-ltb _ _ (c .if1 .taken))
 
--- src/items.rt:23:1
 returns-2 : tie.Need-returns-2
 unfolding itemEvents clocked
-returns-2 c = simp (le-leb _ _ (c .if1 .left), le-ltb _ _ (c .if1 .left))
+returns-2 c = simp (le-ltb _ _ (c .if1 .left))
 
 pub events-of-spec : {M : Type 1} → statement M
 events-of-spec = tie.close (tie.spec returns returns-2)

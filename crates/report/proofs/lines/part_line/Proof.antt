@@ -1,3 +1,4 @@
+-- Each piece adds its text after the one before, and all of it fits.
 use mathlib.Core.Path.{sym}
 use Prim.Native.Nat.{_≤_}
 use native.Mathlib.Omega.{arith}
@@ -8,57 +9,40 @@ use Rattle.report.proofs.Pieces.{on, line}
 use borrow.Author.Needs.{needs}
 use Rattle.report.proofs.lines.part_line.Statement.{statement}
 use Rattle.report.proofs.lines.part_line.Tie as tie
-use Rattle.report.proofs.lines.part_line.Reads as reads
-use Rattle.report.proofs.lines.part_line.Lts as lts
-use Rattle.report.proofs.text.put.Reads as put-reads
-use Rattle.report.proofs.text.put_decimal.Reads as put-decimal-reads
-use Rattle.report.proofs.text.put_hex.Reads as put-hex-reads
 
--- src/lines.rt:61:26
 slice-aggregate-put : tie.Need-slice-aggregate-put
 slice-aggregate-put c = search needs
 
--- src/lines.rt:61:9
 put-requires : tie.Need-put-requires
 put-requires c κs = search needs
 
--- src/lines.rt:62:9
 put-decimal-requires : tie.Need-put-decimal-requires
 put-decimal-requires c κs = search needs
 
--- src/lines.rt:63:27
 slice-aggregate-put-2 : tie.Need-slice-aggregate-put-2
 slice-aggregate-put-2 c = search needs
 
--- src/lines.rt:63:9
 put-requires-2 : tie.Need-put-requires-2
 put-requires-2 c κs = search needs
 
--- src/lines.rt:64:9
 put-decimal-requires-2 : tie.Need-put-decimal-requires-2
 put-decimal-requires-2 c κs = search needs
 
--- src/lines.rt:65:27
 slice-aggregate-put-3 : tie.Need-slice-aggregate-put-3
 slice-aggregate-put-3 c = search needs
 
--- src/lines.rt:65:9
 put-requires-3 : tie.Need-put-requires-3
 put-requires-3 c κs = search needs
 
--- src/lines.rt:66:9
 put-hex-requires : tie.Need-put-hex-requires
 put-hex-requires c κs = search needs
 
--- src/lines.rt:67:18
 slice-aggregate-put-4 : tie.Need-slice-aggregate-put-4
 slice-aggregate-put-4 c = search needs
 
--- src/lines.rt:67:5
 put-requires-4 : tie.Need-put-requires-4
 put-requires-4 c κs = search needs
 
--- src/lines.rt:57:1
 returns : tie.Need-returns
 unfolding partLine
 returns c =

@@ -1,31 +1,23 @@
+-- Two signs, by the number of clocks.
 use borrow.Author.Tests.{le-ltb, lt-ltb}
 use Rattle.report.specs.Lines.{codeText}
 use borrow.Author.Needs.{needs}
 use Rattle.report.proofs.lines.put_code.Statement.{statement}
 use Rattle.report.proofs.lines.put_code.Tie as tie
-use Rattle.report.proofs.lines.put_code.Reads as reads
-use Rattle.report.proofs.lines.put_code.Lts as lts
-use Rattle.report.proofs.text.put.Reads as put-reads
-use Rattle.report.proofs.text.put_hex.Reads as put-hex-reads
 
--- src/lines.rt:21:29
 slice-aggregate-put : tie.Need-slice-aggregate-put
 slice-aggregate-put c = search needs
 
--- src/lines.rt:21:9
 put-requires : tie.Need-put-requires
 put-requires c κs = search needs
 
--- src/lines.rt:21:9
 returns : tie.Need-returns
 unfolding codeText
 returns c = (c .put .ensures .0, rw (lt-ltb _ _ (c .before .before .before .if1 .taken)) (c .put .ensures .1))
 
--- src/lines.rt:23:5
 put-hex-requires : tie.Need-put-hex-requires
 put-hex-requires c κs = search needs
 
--- src/lines.rt:15:1
 returns-2 : tie.Need-returns-2
 unfolding codeText
 returns-2 c = (c .put-hex .ensures .0, rw (le-ltb _ _ (c .before .before .if1 .left)) (c .put-hex .ensures .1))

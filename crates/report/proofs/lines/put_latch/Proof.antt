@@ -1,33 +1,25 @@
+-- One digit, by the latch.
 use Rattle.report.specs.Lines.{latchText}
 use borrow.Author.Needs.{needs}
 use Rattle.report.proofs.lines.put_latch.Statement.{statement}
 use Rattle.report.proofs.lines.put_latch.Tie as tie
-use Rattle.report.proofs.lines.put_latch.Reads as reads
-use Rattle.report.proofs.lines.put_latch.Lts as lts
-use Rattle.report.proofs.text.put.Reads as put-reads
 
--- src/lines.rt:51:29
 slice-aggregate-put : tie.Need-slice-aggregate-put
 slice-aggregate-put c = search needs
 
--- src/lines.rt:51:9
 put-requires : tie.Need-put-requires
 put-requires c κs = search needs
 
--- src/lines.rt:51:9
 returns : tie.Need-returns
 unfolding latchText
 returns c = (c .put .ensures .0, rw (c .before .before .before .if1 .taken) (c .put .ensures .1))
 
--- src/lines.rt:53:18
 slice-aggregate-put-2 : tie.Need-slice-aggregate-put-2
 slice-aggregate-put-2 c = search needs
 
--- src/lines.rt:53:5
 put-requires-2 : tie.Need-put-requires-2
 put-requires-2 c κs = search needs
 
--- src/lines.rt:45:1
 returns-2 : tie.Need-returns-2
 unfolding latchText
 returns-2 c = (c .put2 .ensures .0, rw (c .before .before .before .if1 .left) (c .put2 .ensures .1))

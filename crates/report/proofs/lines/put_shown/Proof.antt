@@ -1,3 +1,4 @@
+-- None; at most 64; or 64 and the sign that there are more.
 use mathlib.Core.Path.{sym}
 use native.Mathlib.Omega.{arith}
 use borrow.Author.Tests.{eq-eqb, ne-eqb, le-leb, lt-leb}
@@ -7,50 +8,36 @@ use Rattle.report.proofs.Pieces.{on}
 use borrow.Author.Needs.{needs}
 use Rattle.report.proofs.lines.put_shown.Statement.{statement}
 use Rattle.report.proofs.lines.put_shown.Tie as tie
-use Rattle.report.proofs.lines.put_shown.Reads as reads
-use Rattle.report.proofs.lines.put_shown.Lts as lts
-use Rattle.report.proofs.text.put.Reads as put-reads
-use Rattle.report.proofs.text.put_hexes.Reads as put-hexes-reads
 
--- src/lines.rt:34:29
 slice-aggregate-put : tie.Need-slice-aggregate-put
 slice-aggregate-put c = search needs
 
--- src/lines.rt:34:9
 put-requires : tie.Need-put-requires
 put-requires c κs = search needs
 
--- src/lines.rt:34:9
 returns : tie.Need-returns
 unfolding shownText
 returns c = (omega arith, rw (eq-eqb _ _ (c .before .before .before .if1 .taken)) (c .put .ensures .1))
 
--- src/lines.rt:38:35
 slice-aggregate-put-hexes : tie.Need-slice-aggregate-put-hexes
 slice-aggregate-put-hexes c = sym (length-take-le _ _ (omega (arith, c .before .before .before .before .before .pre .1)))
 
--- src/lines.rt:38:9
 put-hexes-requires : tie.Need-put-hexes-requires
 put-hexes-requires c κs = omega (arith, length-take-le (c .before .before .before .before .before .args .whole) (c .before .before .before .before .before .args .shown .now) (omega (arith, c .before .before .before .before .before .pre .1)))
 
--- src/lines.rt:38:9
 returns-2 : tie.Need-returns-2
 unfolding shownText
 returns-2 c = (omega (arith, length-take-le (c .before .before .before .before .before .before .args .whole) (c .before .before .before .before .before .before .args .shown .now) (omega (arith, c .before .before .before .before .before .before .pre .1))), rw (ne-eqb _ _ (c .before .before .before .before .if1 .left), le-leb _ _ (c .before .before .before .if2 .taken)) (c .put-hexes .ensures .1))
 
--- src/lines.rt:40:9
 put-hexes-requires-2 : tie.Need-put-hexes-requires-2
 put-hexes-requires-2 c κs = search needs
 
--- src/lines.rt:41:20
 slice-aggregate-put-2 : tie.Need-slice-aggregate-put-2
 slice-aggregate-put-2 c = search needs
 
--- src/lines.rt:41:5
 put-requires-2 : tie.Need-put-requires-2
 put-requires-2 c κs = search needs
 
--- src/lines.rt:27:1
 returns-3 : tie.Need-returns-3
 unfolding shownText
 returns-3 c = (omega (arith, c .before .before .before .before .before .before .before .before .pre .1), rw (ne-eqb _ _ (c .before .before .before .before .before .before .if1 .left), lt-leb _ _ (c .before .before .before .before .before .if2 .left)) (on (c .before .before .before .put-hexes2 .ensures .1) (c .put2 .ensures .1)))

@@ -1,3 +1,4 @@
+-- Each piece adds its text after the one before, and all of it fits.
 use mathlib.Core.Path.{sym}
 use Prim.Native.Nat.{_≤_}
 use native.Mathlib.Omega.{arith}
@@ -8,50 +9,34 @@ use Rattle.report.proofs.Pieces.{on, line}
 use borrow.Author.Needs.{needs}
 use Rattle.report.proofs.lines.select_line.Statement.{statement}
 use Rattle.report.proofs.lines.select_line.Tie as tie
-use Rattle.report.proofs.lines.select_line.Reads as reads
-use Rattle.report.proofs.lines.select_line.Lts as lts
-use Rattle.report.proofs.lines.put_counts.Reads as put-counts-reads
-use Rattle.report.proofs.lines.put_shown.Reads as put-shown-reads
-use Rattle.report.proofs.text.put.Reads as put-reads
-use Rattle.report.proofs.text.put_decimal.Reads as put-decimal-reads
 
--- src/lines.rt:89:26
 slice-aggregate-put : tie.Need-slice-aggregate-put
 slice-aggregate-put c = search needs
 
--- src/lines.rt:89:9
 put-requires : tie.Need-put-requires
 put-requires c κs = search needs
 
--- src/lines.rt:90:9
 put-decimal-requires : tie.Need-put-decimal-requires
 put-decimal-requires c κs = search needs
 
--- src/lines.rt:91:27
 slice-aggregate-put-2 : tie.Need-slice-aggregate-put-2
 slice-aggregate-put-2 c = search needs
 
--- src/lines.rt:91:9
 put-requires-2 : tie.Need-put-requires-2
 put-requires-2 c κs = search needs
 
--- src/lines.rt:92:9
 put-shown-requires : tie.Need-put-shown-requires
 put-shown-requires c κs = search needs
 
--- src/lines.rt:93:9
 put-counts-requires : tie.Need-put-counts-requires
 put-counts-requires c κs = search needs
 
--- src/lines.rt:94:18
 slice-aggregate-put-3 : tie.Need-slice-aggregate-put-3
 slice-aggregate-put-3 c = search needs
 
--- src/lines.rt:94:5
 put-requires-3 : tie.Need-put-requires-3
 put-requires-3 c κs = search needs
 
--- src/lines.rt:85:1
 returns : tie.Need-returns
 unfolding selectLine
 returns c =

@@ -1,19 +1,15 @@
+-- Below 64 the byte has its place; past it the definition changes nothing either.
 use borrow.Author.Tests.{lt-ltb, le-ltb}
 use borrow.Author.Needs.{needs}
 use Rattle.report.proofs.record.keep.Statement.{statement}
 use Rattle.report.proofs.record.keep.Tie as tie
-use Rattle.report.proofs.record.keep.Reads as reads
-use Rattle.report.proofs.record.keep.Lts as lts
 
--- src/record.rt:57:9
 element-write-shown : tie.Need-element-write-shown
 element-write-shown c = search needs
 
--- src/record.rt:53:1
 returns : tie.Need-returns
 returns c = simp (lt-ltb _ _ (c .if1 .taken))
 
--- src/record.rt:53:1
 returns-2 : tie.Need-returns-2
 returns-2 c = simp (le-ltb _ _ (c .if1 .left))
 

@@ -1,42 +1,32 @@
+-- A driven level is a bit, a released one is none.
 use Rattle.report.specs.Record.{sampled}
 use borrow.Author.Needs.{needs}
 use Rattle.report.proofs.record.sample.Statement.{statement}
 use Rattle.report.proofs.record.sample.Tie as tie
-use Rattle.report.proofs.record.sample.Reads as reads
-use Rattle.report.proofs.record.sample.Lts as lts
-use Rattle.stages.proofs.bits.take_bit.Reads as take-bit-reads
 
--- src/record.rt:36:23
 enum-told : tie.Need-enum-told
 enum-told c = search needs
 
--- src/record.rt:36:23
 take-bit-requires : tie.Need-take-bit-requires
 take-bit-requires c κs = search needs
 
--- src/record.rt:37:24
 enum-told-2 : tie.Need-enum-told-2
 enum-told-2 c = search needs
 
--- src/record.rt:37:24
 take-bit-requires-2 : tie.Need-take-bit-requires-2
 take-bit-requires-2 c κs = search needs
 
--- src/record.rt:38:28
 enum-told-3 : tie.Need-enum-told-3
 enum-told-3 c = search needs
 
--- src/record.rt:32:1
 returns : tie.Need-returns
 unfolding sampled
 returns c = simp (c .take-bit .ensures, c .before .enum-told .given .1)
 
--- src/record.rt:32:1
 returns-2 : tie.Need-returns-2
 unfolding sampled
 returns-2 c = simp (c .take-bit2 .ensures, c .before .enum-told2 .given .1)
 
--- src/record.rt:32:1
 returns-3 : tie.Need-returns-3
 unfolding sampled
 returns-3 c = simp (c .enum-told3 .given .1)

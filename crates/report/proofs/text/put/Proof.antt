@@ -1,3 +1,4 @@
+-- After i turns the first i bytes of the text stand from the place on; what stood before it stays.
 use mathlib.Core.Path.{_≡_, refl, sym, ap, _∙_}
 use mathlib.Core.List.{List, _++_, append-nil}
 use Prim.Native.Nat.{ℕ, _+_, _-_, _≤_, zero-le}
@@ -9,8 +10,6 @@ use borrow.Author.Needs.{needs}
 use Rattle.report.proofs.Pieces.{put-more}
 use Rattle.report.proofs.text.put.Statement.{statement}
 use Rattle.report.proofs.text.put.Tie as tie
-use Rattle.report.proofs.text.put.Reads as reads
-use Rattle.report.proofs.text.put.Lts as lts
 
 abbrev Inv-loop : tie.InvT-loop
 Inv-loop out₀ at text i₀ out i =
@@ -19,31 +18,24 @@ Inv-loop out₀ at text i₀ out i =
 abbrev μ-loop : tie.MeasureT-loop
 μ-loop out₀ at text i₀ out i = length text - i
 
--- src/text.rt:43:5
 loop-holds : tie.Need-loop-holds Inv-loop μ-loop
 loop-holds c = (zero-le, ap (λ (n : ℕ). take n (c .args .out .now)) (add-zero (c .args .at)) ∙ sym (append-nil _), refl)
 
--- src/text.rt:44:23
 shared-slice-read-out : tie.Need-shared-slice-read-out Inv-loop μ-loop
 shared-slice-read-out c = search needs
 
--- src/text.rt:44:13
 add-out : tie.Need-add-out Inv-loop μ-loop
 add-out c = search needs
 
--- src/text.rt:44:9
 slice-write-out : tie.Need-slice-write-out Inv-loop μ-loop
 slice-write-out c = search needs
 
--- src/text.rt:45:9
 add-i : tie.Need-add-i Inv-loop μ-loop
 add-i c = search needs
 
--- src/text.rt:43:5
 loop-less : tie.Need-loop-less Inv-loop μ-loop
 loop-less c = search needs
 
--- src/text.rt:43:5
 loop-again : tie.Need-loop-again Inv-loop μ-loop
 loop-again c = (
   omega arith,
@@ -51,15 +43,12 @@ loop-again c = (
   length-set (c .before .before .loop .out) _ _ ∙ c .before .before .loop .inv .2,
 )
 
--- src/text.rt:47:5
 add-result : tie.Need-add-result Inv-loop μ-loop
 add-result c = search needs
 
--- src/text.rt:37:1
 same-length : tie.Need-same-length Inv-loop μ-loop
 same-length c = c .before .loop .inv .2
 
--- src/text.rt:37:1
 returns : tie.Need-returns Inv-loop μ-loop
 returns c =
     let past : c .before .loop .i ≡ length (c .before .before .args .text .now) = le-antisymm (c .before .loop .inv .0) (c .loop-test .left) in (

@@ -1,4 +1,5 @@
-use mathlib.Core.Path.{_≡_, ap, _∙_}
+-- The digits, as many as the number has, after what stood there.
+use mathlib.Core.Path.{ap, _∙_}
 use mathlib.Core.List.{List, _++_}
 use Prim.Native.Nat.{ℕ}
 use native.Mathlib.Omega.{arith}
@@ -8,28 +9,19 @@ use Rattle.report.proofs.Decimals.{decimal-is, short}
 use borrow.Author.Needs.{needs}
 use Rattle.report.proofs.text.put_decimal.Statement.{statement}
 use Rattle.report.proofs.text.put_decimal.Tie as tie
-use Rattle.report.proofs.text.put_decimal.Reads as reads
-use Rattle.report.proofs.text.put_decimal.Lts as lts
-use Rattle.io.proofs.decimal.Reads as decimal-reads
-use Rattle.report.proofs.text.put.Reads as put-reads
 
--- src/text.rt:83:9
 decimal-requires : tie.Need-decimal-requires
 decimal-requires c κs = search needs
 
--- src/text.rt:84:18
 array-share-prefix-digits : tie.Need-array-share-prefix-digits
 array-share-prefix-digits c = search needs
 
--- src/text.rt:84:18
 slice-aggregate-put : tie.Need-slice-aggregate-put
 slice-aggregate-put c = search needs
 
--- src/text.rt:84:5
 put-requires : tie.Need-put-requires
 put-requires c κs = omega (arith, c .before .put-arg .given .0 .1, short (c .before .before .decimal .result) _ (c .before .before .before .before .fits .n .fits) (c .before .before .decimal .ensures .1 .0), c .before .before .decimal .ensures .0 .1)
 
--- src/text.rt:77:1
 returns : tie.Need-returns
 unfolding decimal
 returns c = (

@@ -1,3 +1,4 @@
+-- The upper four bits, then the lower four, each a digit of the table.
 use mathlib.Core.Path.{_∙_}
 use native.Mathlib.Omega.{arith}
 use lib.Bits.{and-le-r, and-mask}
@@ -5,36 +6,25 @@ use Rattle.report.specs.Text.{hex}
 use borrow.Author.Needs.{needs}
 use Rattle.report.proofs.text.put_hex.Statement.{statement}
 use Rattle.report.proofs.text.put_hex.Tie as tie
-use Rattle.report.proofs.text.put_hex.Reads as reads
-use Rattle.report.proofs.text.put_hex.Lts as lts
-use Rattle.report.proofs.text.capital.Reads as capital-reads
-use Rattle.report.proofs.text.put.Reads as put-reads
 
--- src/text.rt:56:24
 cast-capital : tie.Need-cast-capital
 cast-capital c = search needs
 
--- src/text.rt:56:9
 capital-requires : tie.Need-capital-requires
 capital-requires c κs = search needs
 
--- src/text.rt:57:23
 cast-capital-2 : tie.Need-cast-capital-2
 cast-capital-2 c = omega (arith, and-le-r (c .before .args .byte) 15)
 
--- src/text.rt:57:9
 capital-requires-2 : tie.Need-capital-requires-2
 capital-requires-2 c κs = omega (arith, and-le-r (c .before .args .byte) 15)
 
--- src/text.rt:58:18
 slice-aggregate-put : tie.Need-slice-aggregate-put
 slice-aggregate-put c = search needs
 
--- src/text.rt:58:5
 put-requires : tie.Need-put-requires
 put-requires c κs = search needs
 
--- src/text.rt:51:1
 returns : tie.Need-returns
 unfolding hex
 returns c = (

@@ -1,3 +1,4 @@
+-- After i turns the digits of the first i bytes stand there.
 use mathlib.Core.Path.{_≡_, sym, ap, _∙_}
 use mathlib.Core.List.{List, _++_, append-assoc, append-nil}
 use Prim.Native.Nat.{ℕ, _+_, _-_, _*_, _≤_, zero-le}
@@ -10,9 +11,6 @@ use Rattle.report.specs.Text.{hex, hexes}
 use Rattle.report.proofs.Pieces.{hexes-more}
 use Rattle.report.proofs.text.put_hexes.Statement.{statement}
 use Rattle.report.proofs.text.put_hexes.Tie as tie
-use Rattle.report.proofs.text.put_hexes.Reads as reads
-use Rattle.report.proofs.text.put_hexes.Lts as lts
-use Rattle.report.proofs.text.put_hex.Reads as put-hex-reads
 
 abbrev Inv-loop : tie.InvT-loop
 Inv-loop out₀ at bytes next₀ i₀ out next i =
@@ -21,27 +19,21 @@ Inv-loop out₀ at bytes next₀ i₀ out next i =
 abbrev μ-loop : tie.MeasureT-loop
 μ-loop out₀ at bytes next₀ i₀ out next i = length bytes - i
 
--- src/text.rt:69:5
 loop-holds : tie.Need-loop-holds Inv-loop μ-loop
 loop-holds c = (zero-le, omega arith, sym (append-nil _))
 
--- src/text.rt:70:35
 shared-slice-read-put-hex : tie.Need-shared-slice-read-put-hex Inv-loop μ-loop
 shared-slice-read-put-hex c = search needs
 
--- src/text.rt:70:9
 put-hex-requires : tie.Need-put-hex-requires Inv-loop μ-loop
 put-hex-requires c κs = search needs
 
--- src/text.rt:71:9
 add-i : tie.Need-add-i Inv-loop μ-loop
 add-i c = search needs
 
--- src/text.rt:69:5
 loop-less : tie.Need-loop-less Inv-loop μ-loop
 loop-less c = search needs
 
--- src/text.rt:69:5
 loop-again : tie.Need-loop-again Inv-loop μ-loop
 loop-again c = (
   omega arith,
@@ -52,7 +44,6 @@ loop-again c = (
       ∙ ap (λ (l : List ℕ). take (c .before .before .before .before .before .before .args .at) (c .before .before .before .before .before .before .args .out .now) ++ l) (sym (hexes-more (c .before .before .before .before .before .before .args .bytes .now) (c .before .before .before .before .loop .i) (omega arith))),
 )
 
--- src/text.rt:62:1
 returns : tie.Need-returns Inv-loop μ-loop
 returns c =
     let past : c .before .loop .i ≡ length (c .before .before .before .args .bytes .now) = le-antisymm (c .before .loop .inv .0) (c .loop-test .left) in (

@@ -1,45 +1,31 @@
+-- A select that opens begins a record; the note goes into the record that is there.
 use Rattle.bench.specs.Stand.{after}
 use borrow.Author.Needs.{needs}
 use Rattle.bench.proofs.stand.Stand.after.Statement.{statement}
 use Rattle.bench.proofs.stand.Stand.after.Tie as tie
-use Rattle.bench.proofs.stand.Stand.after.Reads as reads
-use Rattle.bench.proofs.stand.Stand.after.Lts as lts
-use Rattle.bench.proofs.stand.Stand.clocked.Reads as clocked-reads
-use Rattle.chip.proofs.watch.is_open.Reads as is-open-reads
-use Rattle.report.proofs.record.Record.new.Reads as new-reads
-use Rattle.report.proofs.record.Record.note.Reads as note-reads
-use Rattle.report.proofs.record.count.Reads as count-reads
 
--- src/stand.rt:58:20
 clocked-requires : tie.Need-clocked-requires
 clocked-requires c κs = search needs
 
--- src/stand.rt:58:13
 note-requires : tie.Need-note-requires
 note-requires c κs = search needs
 
--- src/stand.rt:59:13
 is-open-requires : tie.Need-is-open-requires
 is-open-requires c κs = search needs
 
--- src/stand.rt:59:29
 is-open-requires-2 : tie.Need-is-open-requires-2
 is-open-requires-2 c κs = search needs
 
--- src/stand.rt:62:26
 count-requires : tie.Need-count-requires
 count-requires c κs = search needs
 
--- src/stand.rt:63:23
 new-requires : tie.Need-new-requires
 new-requires c κs = search needs
 
--- src/stand.rt:60:13
 returns : tie.Need-returns
 unfolding after
 returns c = (simp (c .new .ensures, c .before .count .ensures, ← c .before .before .before .is-open2 .ensures, ← c .before .before .before .before .is-open .ensures, c .before .before .if1 .taken), c .before .before .before .before .before .before .clocked .ensures .1)
 
--- src/stand.rt:51:5
 returns-2 : tie.Need-returns-2
 unfolding after
 returns-2 c = (simp (c .before .before .before .note .ensures, c .before .before .before .before .clocked .ensures .0, ← c .before .is-open2 .ensures, ← c .before .before .is-open .ensures, c .if1 .left), c .before .before .before .before .clocked .ensures .1)

@@ -1,20 +1,15 @@
+-- A select was open and is not any more.
 use Rattle.bench.specs.Stand.{closes}
 use borrow.Author.Needs.{needs}
 use Rattle.bench.proofs.stand.Stand.closes.Statement.{statement}
 use Rattle.bench.proofs.stand.Stand.closes.Tie as tie
-use Rattle.bench.proofs.stand.Stand.closes.Reads as reads
-use Rattle.bench.proofs.stand.Stand.closes.Lts as lts
-use Rattle.chip.proofs.watch.is_open.Reads as is-open-reads
 
--- src/stand.rt:34:9
 is-open-requires : tie.Need-is-open-requires
 is-open-requires c κs = search needs
 
--- src/stand.rt:34:26
 is-open-requires-2 : tie.Need-is-open-requires-2
 is-open-requires-2 c κs = search needs
 
--- src/stand.rt:30:5
 returns : tie.Need-returns
 unfolding closes
 returns c = simp (c .is-open2 .ensures, c .before .is-open .ensures)

@@ -1,74 +1,57 @@
+-- Case by case: only a stored note counts.
 use Rattle.report.specs.Record.{noted}
 use borrow.Author.Needs.{needs}
 use Rattle.report.proofs.record.Record.note.Statement.{statement}
 use Rattle.report.proofs.record.Record.note.Tie as tie
-use Rattle.report.proofs.record.Record.note.Reads as reads
-use Rattle.report.proofs.record.Record.note.Lts as lts
-use Rattle.report.proofs.record.count.Reads as count-reads
 
--- src/record.rt:107:30
 enum-told : tie.Need-enum-told
 enum-told c = search needs
 
--- src/record.rt:108:31
 enum-told-2 : tie.Need-enum-told-2
 enum-told-2 c = search needs
 
--- src/record.rt:110:25
 enum-told-3 : tie.Need-enum-told-3
 enum-told-3 c = search needs
 
--- src/record.rt:110:25
 count-requires : tie.Need-count-requires
 count-requires c κs = search needs
 
--- src/record.rt:113:37
 enum-told-4 : tie.Need-enum-told-4
 enum-told-4 c = search needs
 
--- src/record.rt:114:33
 enum-told-5 : tie.Need-enum-told-5
 enum-told-5 c = search needs
 
--- src/record.rt:115:38
 enum-told-6 : tie.Need-enum-told-6
 enum-told-6 c = search needs
 
--- src/record.rt:116:32
 enum-told-7 : tie.Need-enum-told-7
 enum-told-7 c = search needs
 
--- src/record.rt:103:5
 returns : tie.Need-returns
 unfolding noted
 returns c = simp (c .enum-told .given .1)
 
--- src/record.rt:103:5
 returns-2 : tie.Need-returns-2
 unfolding noted
 returns-2 c = simp (c .enum-told2 .given .1)
 
--- src/record.rt:103:5
 returns-3 : tie.Need-returns-3
 unfolding noted
 returns-3 c = simp (c .before .count .ensures, c .before .before .enum-told3 .given .1)
 
--- src/record.rt:103:5
 returns-4 : tie.Need-returns-4
 unfolding noted
 returns-4 c = simp (c .enum-told4 .given .1)
 
--- src/record.rt:103:5
 returns-5 : tie.Need-returns-5
 unfolding noted
 returns-5 c = simp (c .enum-told5 .given .1)
 
--- src/record.rt:103:5
 returns-6 : tie.Need-returns-6
 unfolding noted
 returns-6 c = simp (c .enum-told6 .given .1)
 
--- src/record.rt:103:5
 returns-7 : tie.Need-returns-7
 unfolding noted
 returns-7 c = simp (c .enum-told7 .given .1)
