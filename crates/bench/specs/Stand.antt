@@ -3,10 +3,10 @@
 use Prim.Native.Nat.{ℕ}
 use mathlib.Core.Bool.{Bool, cond, not, _&&_}
 use mathlib.Core.List.{List}
-use Rattle.chip.specs.Lines.{soLevel}
-use Rattle.chip.specs.Watch.{isOpen, seesRise}
+use Rattle.lines.specs.Lines.{soLevel}
+use Rattle.lines.specs.Watch.{isOpen, seesRise}
 use Rattle.chip.specs.declared.event.Answer.{Answer}
-use Rattle.chip.specs.declared.state.State.{State}
+use Rattle.lines.specs.declared.state.State.{State}
 use Rattle.report.specs.Record.{counted, fresh, risen, shownAfter, noted}
 use Rattle.report.specs.declared.record.Record.{Record}
 use Rattle.bench.specs.declared.stand.Stand.{Stand}

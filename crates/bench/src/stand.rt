@@ -2,9 +2,9 @@
 ghost use mathlib.Core.Path.{_≡_};
 ghost use Rattle.bench.specs.Stand.{opens, closes, begun, clockedBy, shownBy, after};
 use chip::event::Answer;
-use chip::state::State;
-use chip::watch::is_open;
-use chip::watch::sees_rise;
+use lines::state::State;
+use lines::watch::is_open;
+use lines::watch::sees_rise;
 use report::record::Record;
 use report::record::count;
 

@@ -10,11 +10,11 @@ use Rattle.stages.specs.Close.{isClosed}
 use Rattle.select.specs.declared.notes.Level.the-variants.{Released}
 use Rattle.select.specs.declared.notes.Note.{Note}
 use Rattle.select.specs.declared.notes.Note.the-variants.{Nothing, Latch, Stored, HeldBack, KeptSet, KeptHeldBack, PowerLost}
-use Rattle.chip.specs.Lines.{atRest, csLevel, soLevel}
-use Rattle.chip.specs.Edges.{still, withSi, withWp, csFall, csRise, sckRise, sckFall, holdFall, holdRise, cut}
-use Rattle.chip.specs.Sound.{isOff, sound}
-use Rattle.chip.specs.declared.state.State.{State}
-use Rattle.chip.specs.declared.state.Moved.{Moved}
+use Rattle.lines.specs.Lines.{atRest, csLevel, soLevel}
+use Rattle.lines.specs.Edges.{still, withSi, withWp, csFall, csRise, sckRise, sckFall, holdFall, holdRise, cut}
+use Rattle.lines.specs.Sound.{isOff, sound}
+use Rattle.lines.specs.declared.state.State.{State}
+use Rattle.lines.specs.declared.state.Moved.{Moved}
 use Rattle.chip.specs.declared.event.Answer.{Answer}
 
 -- "The answer to an event: a refusal number or 0; the state; the level of SO after it; and one note"

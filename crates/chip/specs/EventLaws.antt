@@ -8,8 +8,8 @@ use lib.Dec.{eqb, leb}
 use borrow.Author.Tests.{eqb-false, leb-false}
 use Rattle.parts.specs.Figures.{figureOf}
 use Rattle.chip.specs.Event.{checks, event, step, refused, fitsPart}
-use Rattle.chip.specs.Sound.{sound}
-use Rattle.chip.specs.declared.state.State.{State}
+use Rattle.lines.specs.Sound.{sound}
+use Rattle.lines.specs.declared.state.State.{State}
 
 module _ (xs : List ℕ) (s : State) (code : ℕ) where
   pub event-refused : eqb (checks s (length xs) code) 0 ≡ false → event xs s code ≡ refused (checks s (length xs) code) s

@@ -15,13 +15,13 @@ use Rattle.select.specs.Fall.{shows, afterByte, fall, stageLevel}
 use Rattle.select.specs.Notes.{NoteNumbers, levelNumber, noteNumbers}
 use Rattle.select.specs.Rise.{opened, codeRise, upperRise, lowerRise, writeRise, keepRise, rise}
 use Rattle.stages.specs.Sound.{soundShift, soundStage}
-use Rattle.chip.specs.Edges.{csFall, csRise, sckRise, sckFall, holdFall, holdRise, cut}
+use Rattle.lines.specs.Edges.{csFall, csRise, sckRise, sckFall, holdFall, holdRise, cut}
 use Rattle.chip.specs.Event.{csStayed, live, step, checks, event, written}
-use Rattle.chip.specs.Lines.{atRest, csLevel, soLevel}
-use Rattle.chip.specs.Sound.{isOff, rests, sound}
-use Rattle.chip.specs.Watch.{isOpen, seesRise}
+use Rattle.lines.specs.Lines.{atRest, csLevel, soLevel}
+use Rattle.lines.specs.Sound.{isOff, rests, sound}
+use Rattle.lines.specs.Watch.{isOpen, seesRise}
 use Rattle.chip.specs.declared.event.Answer.{Answer}
-use Rattle.chip.specs.declared.state.State.{State}
+use Rattle.lines.specs.declared.state.State.{State}
 
 -- "a data byte .. clocked in as eight times SI, SCK up, SCK down"
 unfoldable pub clockBit : ℕ → ℕ → List ℕ

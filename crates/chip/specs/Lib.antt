@@ -1,10 +1,6 @@
-pub mod Lines
-pub mod Edges
-pub mod Sound
 pub mod Event
 pub mod Answers
 pub mod Power
-pub mod Watch
 pub mod EventLaws
 pub mod PowerLaws
 pub mod SoundLaws

@@ -11,10 +11,10 @@ use Rattle.select.specs.NoteLaws.{level-one, note-one}
 use Rattle.chip.specs.Answers.{Paper, paper}
 use Rattle.chip.specs.Event.{event, written}
 use Rattle.chip.specs.Power.{powerUp, fillRefusal, filled}
-use Rattle.chip.specs.Sound.{sound}
+use Rattle.lines.specs.Sound.{sound}
 use Rattle.chip.specs.declared.event.Answer.{Answer}
 use Rattle.chip.specs.declared.power.Powered.{Powered}
-use Rattle.chip.specs.declared.state.State.{State}
+use Rattle.lines.specs.declared.state.State.{State}
 
 pub paper-one : (a b : Answer) → paper a ≡ paper b → a ≡ b
 paper-one a b e = λ i. record { refusal = e i .refusal; so = so i; note = note i; state = e i .state }

@@ -5,9 +5,9 @@ use mathlib.Core.List.{List}
 use lib.ListN.{length, replicate}
 use lib.Dec.{eqb}
 use Rattle.parts.specs.Figures.{isPart}
-use Rattle.chip.specs.Lines.{atRest}
+use Rattle.lines.specs.Lines.{atRest}
 use Rattle.chip.specs.Event.{fitsPart}
-use Rattle.chip.specs.Sound.{inMask}
+use Rattle.lines.specs.Sound.{inMask}
 use Rattle.chip.specs.declared.power.Powered.{Powered}
 
 -- "Filling a fresh array with 00 checks 1, 2."

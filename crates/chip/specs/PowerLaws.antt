@@ -11,7 +11,7 @@ use Rattle.parts.specs.FigureLaws.{fair}
 use Rattle.parts.specs.TestLaws.{right}
 use Rattle.chip.specs.Event.{fitsPart}
 use Rattle.chip.specs.Power.{powerRefusal}
-use Rattle.chip.specs.Sound.{inMask}
+use Rattle.lines.specs.Sound.{inMask}
 
 passed : (a b d : Bool) → _≡_ {A = ℕ} (cond (not a) 1 (cond (not b) 2 (cond (not d) 3 0))) 0 → (a ≡ true) × (d ≡ true)
 passed false b d h = absurd (eqb-false 1 0 refl h)

@@ -1,6 +1,6 @@
 -- What a bench takes for a seen rise is one: the select takes SI then. Assumes nothing.
 use Prim.Native.Nat.{ℕ}
-use mathlib.Core.Path.{_≡_, refl, ap, _∙_}
+use mathlib.Core.Path.{_≡_, ap, _∙_}
 use mathlib.Core.Bool.{Bool, true, false, cond, not, _&&_}
 use mathlib.Core.List.{List}
 use borrow.Author.Tests.{eqb-true, not-true}
@@ -8,11 +8,11 @@ use lib.Dec.{eqb}
 use Rattle.parts.specs.TestLaws.{left, right}
 use Rattle.parts.specs.declared.figures.Figure.{Figure}
 use Rattle.select.specs.Rise.{rise}
-use Rattle.chip.specs.Edges.{still, withSck, seenBy, rose, sckRise}
+use Rattle.lines.specs.Edges.{still, withSck, seenBy, rose, sckRise}
 use Rattle.chip.specs.Event.{accepted, live, dark, step}
-use Rattle.chip.specs.Sound.{isOff}
-use Rattle.chip.specs.Watch.{isOpen, seesRise}
-use Rattle.chip.specs.declared.state.State.{State}
+use Rattle.lines.specs.Sound.{isOff}
+use Rattle.lines.specs.Watch.{isOpen, seesRise}
+use Rattle.lines.specs.declared.state.State.{State}
 
 module _ (f : Figure) (xs : List ℕ) (s : State) where
   pub rise-seen : (code : ℕ) → seesRise s code ≡ true → step f xs s code ≡ accepted (rose s (rise f (seenBy s) (s .stage)))

@@ -2,10 +2,10 @@
 ghost use mathlib.Core.Path.{_≡_};
 ghost use Rattle.chip.specs.Event.{accepted, refused, csTo, sckTo, siTo, csStayed, holdTo, wpTo, vddTo, live, dark, step, checks, event, written};
 ghost use Rattle.chip.specs.Answers.{paper};
-use crate::sound::is_off;
-use crate::sound::sound;
-use crate::state::Moved;
-use crate::state::State;
+use lines::sound::is_off;
+use lines::sound::sound;
+use lines::state::Moved;
+use lines::state::State;
 use parts::figures::Figure;
 use parts::figures::figure_of;
 use select::notes::Level;
@@ -46,90 +46,88 @@ fn refuse(refusal: u8, state: State) -> Answer
 }
 
 // Each pin set to a level. A level that the pin has changes nothing.
-impl State {
-    fn cs_to(self, level: bool) -> Moved
-        ensures { λ r. ⌜ r ≡ csTo self level ⌝ }
-    {
-        let cs = self.cs();
-        if level {
-            if cs { self.still() } else { self.cs_rise() }
+fn cs_to(state: State, level: bool) -> Moved
+    ensures { λ r. ⌜ r ≡ csTo state level ⌝ }
+{
+    let cs = state.cs();
+    if level {
+        if cs { state.still() } else { state.cs_rise() }
+    } else {
+        if cs { state.cs_fall() } else { state.still() }
+    }
+}
+
+fn sck_to(state: State, f: Figure, array: &[u8], level: bool) -> Moved
+    ensures { λ r. ⌜ r ≡ sckTo f (now (array .entry)) state level ⌝ }
+{
+    if level {
+        if state.sck {
+            state.still()
         } else {
-            if cs { self.cs_fall() } else { self.still() }
+            state.sck_rise(f)
         }
-    }
-
-    fn sck_to(self, f: Figure, array: &[u8], level: bool) -> Moved
-        ensures { λ r. ⌜ r ≡ sckTo f (now (array .entry)) self level ⌝ }
-    {
-        if level {
-            if self.sck {
-                self.still()
-            } else {
-                self.sck_rise(f)
-            }
+    } else {
+        if state.sck {
+            state.sck_fall(f, array)
         } else {
-            if self.sck {
-                self.sck_fall(f, array)
-            } else {
-                self.still()
-            }
+            state.still()
         }
     }
+}
 
-    fn si_to(self, level: bool) -> Moved
-        ensures { λ r. ⌜ r ≡ siTo self level ⌝ }
-    {
-        let state = State { si: level, ..self };
-        state.still()
-    }
+fn si_to(state: State, level: bool) -> Moved
+    ensures { λ r. ⌜ r ≡ siTo state level ⌝ }
+{
+    let next = State { si: level, ..state };
+    next.still()
+}
 
-    // Whether /CS has the level that it had when /HOLD fell.
-    fn cs_stayed(self) -> bool
-        ensures { λ r. ⌜ r ≡ csStayed self ⌝ }
-    {
-        let stage = self.stage;
-        let cs = self.cs();
-        if is_closed(stage) { cs } else { !cs }
-    }
+// Whether /CS has the level that it had when /HOLD fell.
+fn cs_stayed(state: State) -> bool
+    ensures { λ r. ⌜ r ≡ csStayed state ⌝ }
+{
+    let stage = state.stage;
+    let cs = state.cs();
+    if is_closed(stage) { cs } else { !cs }
+}
 
-    fn hold_to(self, level: bool) -> Answer
-        ensures { λ r. ⌜ r ≡ holdTo self level ⌝ }
-    {
-        let hold = self.hold;
-        let off = is_off(hold);
-        if level {
-            if off {
-                return accept(self.still());
-            }
-            if self.sck {
-                return refuse(6, self);
-            }
-            if self.cs_stayed() {
-                return accept(self.hold_rise());
-            }
-            return refuse(7, self);
-        }
+fn hold_to(state: State, level: bool) -> Answer
+    ensures { λ r. ⌜ r ≡ holdTo state level ⌝ }
+{
+    let hold = state.hold;
+    let off = is_off(hold);
+    if level {
         if off {
-            if self.sck {
-                return refuse(6, self);
-            }
-            return accept(self.hold_fall());
+            return accept(state.still());
         }
-        accept(self.still())
+        if state.sck {
+            return refuse(6, state);
+        }
+        if cs_stayed(state) {
+            return accept(state.hold_rise());
+        }
+        return refuse(7, state);
     }
+    if off {
+        if state.sck {
+            return refuse(6, state);
+        }
+        return accept(state.hold_fall());
+    }
+    accept(state.still())
+}
 
-    fn wp_to(self, level: bool) -> Moved
-        ensures { λ r. ⌜ r ≡ wpTo self level ⌝ }
-    {
-        let state = State { wp: level, ..self };
-        state.still()
-    }
+fn wp_to(state: State, level: bool) -> Moved
+    ensures { λ r. ⌜ r ≡ wpTo state level ⌝ }
+{
+    let next = State { wp: level, ..state };
+    next.still()
+}
 
-    fn vdd_to(self, level: bool) -> Moved
-        ensures { λ r. ⌜ r ≡ vddTo self level ⌝ }
-    {
-        if level { self.still() } else { self.cut() }
-    }
+fn vdd_to(state: State, level: bool) -> Moved
+    ensures { λ r. ⌜ r ≡ vddTo state level ⌝ }
+{
+    if level { state.still() } else { state.cut() }
 }
 
 // An event with power on: the pin, and the level that it is set to.
@@ -137,12 +135,12 @@ fn live(f: Figure, state: State, array: &[u8], pin: u8, level: bool) -> Answer
     ensures { λ r. ⌜ r ≡ live f (now (array .entry)) state pin level ⌝ }
 {
     match pin {
-        0 => accept(state.cs_to(level)),
-        1 => accept(state.sck_to(f, array, level)),
-        2 => accept(state.si_to(level)),
-        3 => state.hold_to(level),
-        4 => accept(state.wp_to(level)),
-        _ => accept(state.vdd_to(level)),
+        0 => accept(cs_to(state, level)),
+        1 => accept(sck_to(state, f, array, level)),
+        2 => accept(si_to(state, level)),
+        3 => hold_to(state, level),
+        4 => accept(wp_to(state, level)),
+        _ => accept(vdd_to(state, level)),
     }
 }
 

@@ -1,7 +1,3 @@
-// The chip: its state by value, its lines, one event at a time.
-pub mod edges;
+// The chip: one event at a time, power-up, and a fresh array.
 pub mod event;
 pub mod power;
-pub mod sound;
-pub mod state;
-pub mod watch;

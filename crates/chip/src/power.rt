@@ -2,7 +2,7 @@
 ghost use mathlib.Core.Path.{_≡_};
 ghost use lib.ListN.{length, replicate};
 ghost use Rattle.chip.specs.Power.{powerRefusal, powerUp, fillRefusal, filled};
-use crate::state::State;
+use lines::state::State;
 use parts::figures::figure_of;
 use parts::figures::is_part;
 

@@ -4,9 +4,9 @@ use chip::event::Answer;
 use chip::event::event;
 use chip::power::fill;
 use chip::power::power_up;
-use chip::state::State;
-use chip::watch::is_open;
 use libc::STDOUT_FILENO;
+use lines::state::State;
+use lines::watch::is_open;
 use select::notes::Level;
 use select::notes::Note;
 

@@ -8,7 +8,7 @@ use mathlib.Core.Path.{_≡_, ap, _∙_}
 use lib.ListN.{length, take}
 use Rattle.parts.specs.FigureLaws.{fair}
 use Rattle.parts.specs.Figures.{figureOf, isPart}
-use Rattle.chip.specs.Sound.{inMask}
+use Rattle.lines.specs.Sound.{inMask}
 use Rattle.history.specs.History.{World, history}
 use Rattle.history.specs.Run.{poweredUp, run, worldOf}
 use Rattle.history.specs.Laws.Moments.{reached-from, world-told, run-append, cut-leaves}

@@ -3,9 +3,9 @@
 use Prim.Native.Nat.{ℕ}
 use mathlib.Core.Bool.{true}
 use mathlib.Core.List.{List, [], _∷_}
-use Rattle.chip.specs.Lines.{atRest}
+use Rattle.lines.specs.Lines.{atRest}
 use Rattle.chip.specs.Event.{event, written}
-use Rattle.chip.specs.declared.state.State.{State}
+use Rattle.lines.specs.declared.state.State.{State}
 use Rattle.chip.specs.declared.event.Answer.{Answer}
 use Rattle.history.specs.History.{World}
 

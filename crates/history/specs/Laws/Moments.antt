@@ -12,16 +12,17 @@ use Rattle.parts.specs.FigureLaws.{Fair, fair}
 use Rattle.parts.specs.Figures.{figureOf, isPart}
 use Rattle.select.specs.declared.notes.Note.{Note}
 use Rattle.select.specs.declared.notes.Note.the-variants.{Nothing, Latch, Stored, HeldBack, KeptSet, KeptHeldBack, PowerLost}
-use Rattle.chip.specs.Lines.{atRest}
-use Rattle.chip.specs.Edges.{cut}
+use Rattle.lines.specs.Lines.{atRest}
+use Rattle.lines.specs.Edges.{cut}
 use Rattle.chip.specs.Event as chip
 use Rattle.chip.specs.EventLaws.{event-steps, checks-none}
 use Rattle.chip.specs.Event.{checks, event, step, live, written}
-use Rattle.chip.specs.SoundLaws.{event-sound, rest-sound}
-use Rattle.chip.specs.Sound.{inMask, sound}
-use Rattle.chip.specs.declared.state.Hold.the-variants.{Off}
+use Rattle.chip.specs.SoundLaws.{event-sound}
+use Rattle.lines.specs.SoundLaws.{rest-sound}
+use Rattle.lines.specs.Sound.{inMask, sound}
+use Rattle.lines.specs.declared.state.Hold.the-variants.{Off}
 use Rattle.stages.specs.declared.stage.Stage.the-variants.{Closed}
-use Rattle.chip.specs.declared.state.State.{State}
+use Rattle.lines.specs.declared.state.State.{State}
 use Rattle.history.specs.Lines.{Lines, rest, refused, after, act, acts, passes}
 use Rattle.history.specs.History.{World, history}
 use Rattle.history.specs.Run.{Chip, poweredUp, answered, next, run, worldOf}

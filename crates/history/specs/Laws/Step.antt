@@ -15,12 +15,12 @@ use Rattle.select.specs.Rise.{rise}
 use Rattle.select.specs.declared.notes.Note.the-variants.{Latch}
 use Rattle.stages.specs.declared.stage.Stage.{Stage}
 use Rattle.stages.specs.declared.stage.Stage.the-variants.{Closed}
-use Rattle.chip.specs.Lines.{atRest, csLevel}
-use Rattle.chip.specs.Edges.{still, csFall, csRise, sckRise, sckFall, holdFall, holdRise, cut}
+use Rattle.lines.specs.Lines.{atRest, csLevel}
+use Rattle.lines.specs.Edges.{still, csFall, csRise, sckRise, sckFall, holdFall, holdRise, cut}
 use Rattle.chip.specs.Event.{accepted, csStayed, live, step, written}
-use Rattle.chip.specs.Sound.{isOff}
-use Rattle.chip.specs.declared.state.Hold.{Hold}
-use Rattle.chip.specs.declared.state.Hold.the-variants.{Off, OnLow, OnHigh}
+use Rattle.lines.specs.Sound.{isOff}
+use Rattle.lines.specs.declared.state.Hold.{Hold}
+use Rattle.lines.specs.declared.state.Hold.the-variants.{Off, OnLow, OnHigh}
 use Rattle.history.specs.Lines.{Lines, rest, put, refused, after, act}
 use Rattle.history.specs.History.{World}
 use Rattle.history.specs.Run.{Chip, answered}

@@ -1,0 +1,22 @@
+-- Seen, a select opens; in hold only the level moves.
+use Rattle.lines.specs.Edges.{csFall}
+use borrow.Author.Needs.{needs}
+use Rattle.lines.proofs.state.State.cs_fall.Statement.{statement}
+use Rattle.lines.proofs.state.State.cs_fall.Tie as tie
+
+is-off-requires : tie.Need-is-off-requires
+is-off-requires c κs = search needs
+
+no-bits-requires : tie.Need-no-bits-requires
+no-bits-requires c κs = search needs
+
+returns : tie.Need-returns
+unfolding csFall
+returns c = simp (c .no-bits .ensures, ← c .before .before .is-off .ensures, c .before .if1 .taken)
+
+returns-2 : tie.Need-returns-2
+unfolding csFall
+returns-2 c = simp (← c .before .is-off .ensures, c .if1 .left)
+
+pub cs-fall-spec : {M : Type 1} → statement M
+cs-fall-spec = tie.close (tie.spec is-off-requires no-bits-requires returns returns-2)

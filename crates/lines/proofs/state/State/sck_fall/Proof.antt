@@ -1,0 +1,26 @@
+-- Seen, the output moves; in hold only the level does.
+use Rattle.lines.specs.Edges.{sckFall}
+use borrow.Author.Needs.{needs}
+use Rattle.lines.proofs.state.State.sck_fall.Statement.{statement}
+use Rattle.lines.proofs.state.State.sck_fall.Tie as tie
+
+is-off-requires : tie.Need-is-off-requires
+is-off-requires c κs = search needs
+
+status-byte-requires : tie.Need-status-byte-requires
+status-byte-requires c κs = search needs
+
+fall-requires : tie.Need-fall-requires
+fall-requires c κs = search needs
+
+returns : tie.Need-returns
+unfolding sckFall
+returns c = simp (c .fall .ensures, c .before .status-byte .ensures, ← c .before .before .before .is-off .ensures, c .before .before .if1 .taken)
+
+returns-2 : tie.Need-returns-2
+unfolding sckFall
+returns-2 c = simp (← c .before .is-off .ensures, c .if1 .left)
+
+pub sck-fall-spec : {M : Type 1} → statement M
+sck-fall-spec =
+    tie.close (tie.spec is-off-requires status-byte-requires fall-requires returns returns-2)

@@ -1,0 +1,18 @@
+-- Tests joined by & are the definition's conjunction.
+use Rattle.lines.specs.Watch.{seesRise}
+use borrow.Author.Needs.{needs}
+use Rattle.lines.proofs.watch.sees_rise.Statement.{statement}
+use Rattle.lines.proofs.watch.sees_rise.Tie as tie
+
+is-off-requires : tie.Need-is-off-requires
+is-off-requires c κs = search needs
+
+is-open-requires : tie.Need-is-open-requires
+is-open-requires c κs = search needs
+
+returns : tie.Need-returns
+unfolding seesRise
+returns c = simp (c .before .is-open .ensures, c .before .before .before .is-off .ensures)
+
+pub sees-rise-spec : {M : Type 1} → statement M
+sees-rise-spec = tie.close (tie.spec is-off-requires is-open-requires returns)

@@ -1,0 +1,5 @@
+pub mod Lines
+pub mod Edges
+pub mod Sound
+pub mod Watch
+pub mod SoundLaws

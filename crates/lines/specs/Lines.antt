@@ -1,0 +1,46 @@
+-- "Lines and events" (document 01). Assumes nothing.
+use Prim.Native.Nat.{ℕ}
+use mathlib.Core.Bool.{Bool, true, false}
+use Rattle.stages.specs.Close.{isClosed}
+use Rattle.select.specs.Fall.{stageLevel}
+use Rattle.select.specs.declared.notes.Level.{Level}
+use Rattle.select.specs.declared.notes.Level.the-variants.{Released}
+use Rattle.stages.specs.declared.stage.Stage.{Stage}
+use Rattle.stages.specs.declared.stage.Stage.the-variants.{Closed}
+use Rattle.lines.specs.declared.state.Hold.{Hold}
+use Rattle.lines.specs.declared.state.Hold.the-variants.{Off, OnLow, OnHigh}
+use Rattle.lines.specs.declared.state.State.{State}
+
+-- "At power-up (H): /CS, /HOLD and /WP high, SCK and SI low, no select open, latch off." "the off state: part and kept
+--  bits stay, all else is as at power-up but for the power, SO released."
+abbrev pub atRest : ℕ → ℕ → Bool → State
+atRest part kept power =
+    record {
+      part = part;
+      kept = kept;
+      power = power;
+      sck = false;
+      si = false;
+      wp = true;
+      latch = false;
+      hold = Off;
+      stage = Closed;
+    }
+
+-- the level of /CS: with /HOLD high, high exactly where no select is open; in hold, "only their levels kept"
+abbrev pub csFrom : Hold → Stage → Bool
+csFrom Off stage = isClosed stage
+csFrom OnLow stage = false
+csFrom OnHigh stage = true
+
+unfoldable pub csLevel : State → Bool
+csLevel s = csFrom (s .hold) (s .stage)
+
+-- "While /HOLD is low .. SO is released. When /HOLD rises, SO shows again what it showed before."
+abbrev pub soFrom : Hold → Stage → Level
+soFrom Off stage = stageLevel stage
+soFrom OnLow stage = Released
+soFrom OnHigh stage = Released
+
+unfoldable pub soLevel : State → Level
+soLevel s = soFrom (s .hold) (s .stage)

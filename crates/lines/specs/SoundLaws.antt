@@ -1,0 +1,104 @@
+-- With power on only the part, the kept bits and the stage are tested, so an edge that changes none of them keeps
+-- soundness as it is; the clocks keep it by the laws of a select. Assumes nothing.
+use Prim.Native.Nat.{ℕ}
+use mathlib.Core.Path.{_≡_, refl, _∙_}
+use mathlib.Core.Bool.{Bool, true, false, _&&_, _||_}
+use mathlib.Core.List.{List}
+use borrow.Author.Tests.{eqb-true, eq-eqb}
+use Rattle.parts.specs.FigureLaws.{fair}
+use Rattle.parts.specs.Figures.{figureOf, isPart}
+use Rattle.parts.specs.TestLaws.{both, left, right, choose}
+use Rattle.stages.specs.Close.{isClosed, drops}
+use Rattle.select.specs.Fall.{statusByte}
+use Rattle.stages.specs.Sound.{soundStage, soundShift}
+use Rattle.select.specs.SoundLaws.{rise-sound, rise-masked, fall-sound}
+use Rattle.lines.specs.Edges.{seenBy, csFall, csRise, sckRise, sckFall}
+use Rattle.lines.specs.Lines.{atRest}
+use Rattle.lines.specs.Sound.{isOff, rests, inMask, sound}
+use Rattle.lines.specs.declared.state.State.{State}
+use Rattle.lines.specs.declared.state.Moved.{Moved}
+
+-- what the test asks with power on
+pub record Good (s : State) : Type 0 where
+  pub part : isPart (s .part) ≡ true
+  pub kept : inMask (s .part) (s .kept) ≡ true
+  pub stage : soundStage (figureOf (s .part)) (s .stage) ≡ true
+
+pub good : (s : State) → sound s ≡ true → Good s
+unfolding sound
+good s h = record { part = left a b ab; kept = right a b ab; stage = right (a && b) d abd }
+  where
+    a : Bool
+    a = isPart (s .part)
+
+    b : Bool
+    b = inMask (s .part) (s .kept)
+
+    d : Bool
+    d = soundStage (figureOf (s .part)) (s .stage)
+
+    abd : (a && b && d) ≡ true
+    abd = left (a && b && d) (s .power || rests s) h
+
+    ab : (a && b) ≡ true
+    ab = left (a && b) d abd
+
+pub good-sound : (s : State) → s .power ≡ true → Good s → sound s ≡ true
+unfolding sound
+good-sound s on g = both (both (both (g .part) (g .kept)) (g .stage)) (rw on)
+
+pub rest-sound : (part kept : ℕ) (power : Bool) → isPart part ≡ true → inMask part kept ≡ true → sound (atRest part kept power) ≡ true
+unfolding sound rests soundStage isOff isClosed
+rest-sound part kept true p k = both (both (both p k) refl) refl
+rest-sound part kept false p k = both (both (both p k) refl) refl
+
+abbrev pub Sound : State → Type 0
+Sound s = sound s ≡ true
+
+abbrev pub Keeps : Moved → Type 0
+Keeps m = Sound (m .state)
+
+module _ (s : State) (h : sound s ≡ true) (on : s .power ≡ true) where
+  g : Good s
+  g = good s h
+
+  -- nothing that is tested moves
+  pub kept-on : (next : State) → next .power ≡ s .power → next .part ≡ s .part → next .kept ≡ s .kept → next .stage ≡ s .stage → sound next ≡ true
+  kept-on next p q k t =
+      good-sound next (p ∙ on)
+      (record { part = rw q (g .part); kept = rw (q, k) (g .kept); stage = rw (q, t) (g .stage) })
+
+  -- the stage moves to one that is sound
+  staged : (next : State) → next .power ≡ s .power → next .part ≡ s .part → next .kept ≡ s .kept
+      → soundStage (figureOf (s .part)) (next .stage) ≡ true → sound next ≡ true
+  staged next p q k t = good-sound next (p ∙ on) (record { part = rw q (g .part); kept = rw (q, k) (g .kept); stage = rw q t })
+
+  pub cs-fall : Keeps (csFall s)
+  unfolding csFall soundStage soundShift
+  cs-fall = choose Sound (isOff (s .hold)) (staged _ refl refl refl refl) (kept-on _ refl refl refl refl)
+
+  pub cs-rise : Keeps (csRise s)
+  unfolding csRise soundStage
+  cs-rise =
+      choose Keeps (isOff (s .hold))
+      (choose Keeps (s .latch && drops (s .stage)) (staged _ refl refl refl refl) (staged _ refl refl refl refl))
+      (kept-on _ refl refl refl refl)
+
+  pub sck-rise : Keeps (sckRise (figureOf (s .part)) s)
+  unfolding sckRise
+  sck-rise =
+      choose Keeps (isOff (s .hold))
+      (good-sound _ on
+      (record {
+        part = g .part;
+        kept = eq-eqb _ _ (rise-masked (figureOf (s .part)) (fair (s .part) (g .part)) (seenBy s) (s .stage) (eqb-true _ _ (g .kept)));
+        stage = rise-sound (figureOf (s .part)) (fair (s .part) (g .part)) (seenBy s) (s .stage) (g .stage);
+      }))
+      (kept-on _ refl refl refl refl)
+
+  pub sck-fall : (xs : List ℕ) → Keeps (sckFall (figureOf (s .part)) xs s)
+  unfolding sckFall
+  sck-fall xs =
+      choose Sound (isOff (s .hold))
+      (staged _ refl refl refl (fall-sound (figureOf (s .part)) (fair (s .part) (g .part)) xs (statusByte (s .kept) (s .latch)) (s .stage) (g .stage)))
+      (kept-on _ refl refl refl refl)
