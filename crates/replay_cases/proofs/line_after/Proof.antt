@@ -1,0 +1,51 @@
+-- The place stays between the start of the line and the end of the text, and each byte moves it on.
+use Prim.Native.Nat.{_≤_, _-_}
+use lib.ListN.{length}
+use borrow.Author.Needs.{needs}
+use Rattle.replay_cases.proofs.line_after.Statement.{statement}
+use Rattle.replay_cases.proofs.line_after.Tie as tie
+
+abbrev Inv-loop : tie.InvT-loop
+Inv-loop text at end₀ end = (at ≤ end) × (end ≤ length text)
+
+abbrev μ-loop : tie.MeasureT-loop
+μ-loop text at end₀ end = length text - end
+
+loop-holds : tie.Need-loop-holds Inv-loop μ-loop
+loop-holds c = search needs
+
+shared-slice-read-if1 : tie.Need-shared-slice-read-if1 Inv-loop μ-loop
+shared-slice-read-if1 c = search needs
+
+add-result : tie.Need-add-result Inv-loop μ-loop
+add-result c = search needs
+
+returns : tie.Need-returns Inv-loop μ-loop
+returns c = search needs
+
+add-end : tie.Need-add-end Inv-loop μ-loop
+add-end c = search needs
+
+loop-less : tie.Need-loop-less Inv-loop μ-loop
+loop-less c = search needs
+
+loop-again : tie.Need-loop-again Inv-loop μ-loop
+loop-again c = search needs
+
+returns-2 : tie.Need-returns-2 Inv-loop μ-loop
+returns-2 c = search needs
+
+pub line-after-spec : {M : Type 1} → statement M
+line-after-spec =
+    tie.close
+    (tie.spec
+    Inv-loop
+    μ-loop
+    loop-holds
+    shared-slice-read-if1
+    add-result
+    returns
+    add-end
+    loop-less
+    loop-again
+    returns-2)

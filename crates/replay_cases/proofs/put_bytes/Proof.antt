@@ -1,0 +1,92 @@
+-- The trace holds at most 256 bytes, and each byte of it took three of the line, so no sum wraps.
+use mathlib.Core.Path.{_≡_}
+use Prim.Native.Nat.{_≤_, _*_, _-_}
+use lib.ListN.{length}
+use borrow.Author.Needs.{needs}
+use Rattle.replay_cases.proofs.put_bytes.Statement.{statement}
+use Rattle.replay_cases.proofs.put_bytes.Tie as tie
+
+abbrev Inv-loop : tie.InvT-loop
+Inv-loop line trace₀ len n₀ at₀ trace n at = (n ≤ 256) × (at ≤ 3 * n) × (length trace ≡ 256)
+
+abbrev μ-loop : tie.MeasureT-loop
+μ-loop line trace₀ len n₀ at₀ trace n at = 257 - n
+
+loop-holds : tie.Need-loop-holds Inv-loop μ-loop
+loop-holds c = search needs
+
+add-loop : tie.Need-add-loop Inv-loop μ-loop
+add-loop c = search needs
+
+same-length : tie.Need-same-length Inv-loop μ-loop
+same-length c = search needs
+
+returns : tie.Need-returns Inv-loop μ-loop
+returns c = search needs
+
+shared-slice-read-digit : tie.Need-shared-slice-read-digit Inv-loop μ-loop
+shared-slice-read-digit c = search needs
+
+digit-requires : tie.Need-digit-requires Inv-loop μ-loop
+digit-requires c κs = search needs
+
+mul-trace : tie.Need-mul-trace Inv-loop μ-loop
+mul-trace c = search needs
+
+add-digit : tie.Need-add-digit Inv-loop μ-loop
+add-digit c = search needs
+
+shared-slice-read-digit-2 : tie.Need-shared-slice-read-digit-2 Inv-loop μ-loop
+shared-slice-read-digit-2 c = search needs
+
+digit-requires-2 : tie.Need-digit-requires-2 Inv-loop μ-loop
+digit-requires-2 c κs = search needs
+
+add-trace : tie.Need-add-trace Inv-loop μ-loop
+add-trace c = search needs
+
+slice-write-trace : tie.Need-slice-write-trace Inv-loop μ-loop
+slice-write-trace c = search needs
+
+add-n : tie.Need-add-n Inv-loop μ-loop
+add-n c = search needs
+
+add-at : tie.Need-add-at Inv-loop μ-loop
+add-at c = search needs
+
+loop-less : tie.Need-loop-less Inv-loop μ-loop
+loop-less c = search needs
+
+loop-again : tie.Need-loop-again Inv-loop μ-loop
+loop-again c = search needs
+
+same-length-2 : tie.Need-same-length-2 Inv-loop μ-loop
+same-length-2 c = search needs
+
+returns-2 : tie.Need-returns-2 Inv-loop μ-loop
+returns-2 c = search needs
+
+pub put-bytes-spec : {M : Type 1} → statement M
+put-bytes-spec =
+    tie.close
+    (tie.spec
+    Inv-loop
+    μ-loop
+    loop-holds
+    add-loop
+    same-length
+    returns
+    shared-slice-read-digit
+    digit-requires
+    mul-trace
+    add-digit
+    shared-slice-read-digit-2
+    digit-requires-2
+    add-trace
+    slice-write-trace
+    add-n
+    add-at
+    loop-less
+    loop-again
+    same-length-2
+    returns-2)
