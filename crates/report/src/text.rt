@@ -33,7 +33,7 @@ fn capital(n: usize) -> u8
     CAPITALS[n]
 }
 
-pub fn put(out: &mut [u8], at: usize, text: &[u8]) -> usize
+pub(crate) fn put(out: &mut [u8], at: usize, text: &[u8]) -> usize
     requires { ⌜ at + length (now text) ≤ length (now out) ⌝ }
     ensures { λ r. ⌜ r ≡ at + length (now (text .entry)) ⌝ }
     ensures { λ r. ⌜ Adds (take at (now (out .entry))) (now (text .entry)) (take r (now (out .exit))) ⌝ }
@@ -47,7 +47,7 @@ pub fn put(out: &mut [u8], at: usize, text: &[u8]) -> usize
 }
 
 // The two digits of a byte.
-pub fn put_hex(out: &mut [u8; 256], at: usize, byte: u8) -> usize
+pub(crate) fn put_hex(out: &mut [u8; 256], at: usize, byte: u8) -> usize
     requires { ⌜ at + 2 ≤ 256 ⌝ }
     ensures { λ r. ⌜ r ≡ at + 2 ⌝ }
     ensures { λ r. ⌜ Adds (take at (now (out .entry))) (hex byte) (take r (now (out .exit))) ⌝ }
@@ -58,7 +58,7 @@ pub fn put_hex(out: &mut [u8; 256], at: usize, byte: u8) -> usize
 }
 
 // The digits of bytes, "with no spaces between bytes".
-pub fn put_hexes(out: &mut [u8; 256], at: usize, bytes: &[u8]) -> usize
+pub(crate) fn put_hexes(out: &mut [u8; 256], at: usize, bytes: &[u8]) -> usize
     requires { ⌜ at + 2 * length (now bytes) ≤ 256 ⌝ }
     ensures { λ r. ⌜ r ≡ at + 2 * length (now (bytes .entry)) ⌝ }
     ensures { λ r. ⌜ Adds (take at (now (out .entry))) (hexes (now (bytes .entry))) (take r (now (out .exit))) ⌝ }
@@ -73,7 +73,7 @@ pub fn put_hexes(out: &mut [u8; 256], at: usize, bytes: &[u8]) -> usize
 }
 
 // "other numbers are decimal".
-pub fn put_decimal(out: &mut [u8; 256], at: usize, n: u64) -> usize
+pub(crate) fn put_decimal(out: &mut [u8; 256], at: usize, n: u64) -> usize
     requires { ⌜ at + 20 ≤ 256 ⌝ }
     ensures { λ r. ⌜ r ≤ at + 20 ⌝ }
     ensures { λ r. ⌜ Adds (take at (now (out .entry))) (decimal n) (take r (now (out .exit))) ⌝ }
