@@ -281,5 +281,5 @@ starred =
     ∷ []
 
 examples : T (all starred)
-unfolding clockBit clock clockAll transfer clocks wren noted answered run same driven bits bitsOf stored fresh ends holds all latchOn latchOff starred figureOf command firstProtected mayStore mayKeep afterCode afterAddress nextAddress takeBit bitOf isClosed drops shows afterByte fall stageLevel opened codeRise upperRise lowerRise writeRise keepRise rise soundShift soundStage csFall csRise sckRise sckFall holdFall holdRise cut csStayed live step checks event written csLevel soLevel isOff rests sound isOpen seesRise
+unfolding clockBit clock clockAll transfer clocks wren noted answered run same driven bits bitsOf stored fresh ends holds all latchOn latchOff starred figureOf command firstProtected mayStore mayKeep afterCode afterAddress nextAddress takeBit bitOf shows afterByte fall opened codeRise upperRise lowerRise writeRise keepRise rise soundShift soundStage csFall csRise sckRise sckFall holdFall holdRise cut csStayed live step checks event written rests sound isOpen seesRise
 examples = tt

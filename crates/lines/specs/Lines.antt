@@ -33,7 +33,7 @@ csFrom Off stage = isClosed stage
 csFrom OnLow stage = false
 csFrom OnHigh stage = true
 
-unfoldable pub csLevel : State → Bool
+abbrev pub csLevel : State → Bool
 csLevel s = csFrom (s .hold) (s .stage)
 
 -- "While /HOLD is low .. SO is released. When /HOLD rises, SO shows again what it showed before."
@@ -42,5 +42,5 @@ soFrom Off stage = stageLevel stage
 soFrom OnLow stage = Released
 soFrom OnHigh stage = Released
 
-unfoldable pub soLevel : State → Level
+abbrev pub soLevel : State → Level
 soLevel s = soFrom (s .hold) (s .stage)

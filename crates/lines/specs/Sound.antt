@@ -12,7 +12,7 @@ use Rattle.lines.specs.declared.state.Hold.{Hold}
 use Rattle.lines.specs.declared.state.Hold.the-variants.{Off, OnLow, OnHigh}
 use Rattle.lines.specs.declared.state.State.{State}
 
-unfoldable pub isOff : Hold → Bool
+abbrev pub isOff : Hold → Bool
 isOff Off = true
 isOff OnLow = false
 isOff OnHigh = false

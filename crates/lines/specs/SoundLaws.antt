@@ -48,7 +48,7 @@ unfolding sound
 good-sound s on g = both (both (both (g .part) (g .kept)) (g .stage)) (rw on)
 
 pub rest-sound : (part kept : ℕ) (power : Bool) → isPart part ≡ true → inMask part kept ≡ true → sound (atRest part kept power) ≡ true
-unfolding sound rests soundStage isOff isClosed
+unfolding sound rests soundStage
 rest-sound part kept true p k = both (both (both p k) refl) refl
 rest-sound part kept false p k = both (both (both p k) refl) refl
 

@@ -50,7 +50,7 @@ fall f xs status (Keeping shift) = Keeping shift
 fall f xs status (Over whole) = Over whole
 
 -- the level that a select puts on SO
-unfoldable pub stageLevel : Stage → Level
+abbrev pub stageLevel : Stage → Level
 stageLevel Closed = Released
 stageLevel (Code shift) = Released
 stageLevel (Upper upper) = Released

@@ -4,7 +4,7 @@ use Rattle.stages.specs.declared.stage.Stage.{Stage}
 use Rattle.stages.specs.declared.stage.Stage.the-variants.{Closed, Code, Upper, Lower, Ready, Showing, Writing, Keeping, Over}
 
 -- no select is open
-unfoldable pub isClosed : Stage → Bool
+abbrev pub isClosed : Stage → Bool
 isClosed Closed = true
 isClosed (Code shift) = false
 isClosed (Upper upper) = false
@@ -17,7 +17,7 @@ isClosed (Over whole) = false
 
 -- "The latch drops at the rise of /CS that ends a WRITE or WRSR with at least one whole data byte, held back or
 --  not (H)."
-unfoldable pub drops : Stage → Bool
+abbrev pub drops : Stage → Bool
 drops Closed = false
 drops (Code shift) = false
 drops (Upper upper) = false

@@ -35,7 +35,6 @@ pub data Selected (f : Figure) (w : World) : Place → World → Stage → Type 
 
 module _ (f : Figure) (w : World) where
   pub select-open : {p : Place} {v : World} {stage : Stage} → Selected f w p v stage → close.isClosed stage ≡ isOutside p
-  unfolding close.isClosed
   select-open closed = refl
   select-open (going bs whole r v stage c e) = open-stage f (shiftOf r) whole stage (ap (λ (p : Picture). p .stage) e)
 

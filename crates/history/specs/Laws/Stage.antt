@@ -51,11 +51,9 @@ settle-elim P same ready showing (Keeping shift) = same (Keeping shift)
 settle-elim P same ready showing (Over whole) = same (Over whole)
 
 settle-closed : (stage : Stage) → close.isClosed (settle stage) ≡ close.isClosed stage
-unfolding close.isClosed
 settle-closed = settle-elim (λ a b. close.isClosed a ≡ close.isClosed b) (λ stage. refl) (λ source. refl) (λ shown. refl)
 
 settle-drops : (stage : Stage) → close.drops (settle stage) ≡ close.drops stage
-unfolding close.drops
 settle-drops = settle-elim (λ a b. close.drops a ≡ close.drops b) (λ stage. refl) (λ source. refl) (λ shown. refl)
 
 -- a fall moves only what is shown
@@ -137,14 +135,14 @@ stageOf f sh (op ∷ bs) = stageAs f sh (op .value) bs (command (f .codes) (op .
 
 -- the image is an open select's
 open-in : (f : Figure) (sh : Shift) (write : Bool) (p : Progress) → close.isClosed (stageIn f sh write p) ≡ false
-unfolding stageIn close.isClosed
+unfolding stageIn
 open-in f sh write upper = refl
 open-in f sh write (lower page) = refl
 open-in f sh true (past start bs) = refl
 open-in f sh false (past start bs) = refl
 
 open-as : (f : Figure) (sh : Shift) (code : ℕ) (bs : List Byte) (c : Command) → close.isClosed (stageAs f sh code bs c) ≡ false
-unfolding stageAs close.isClosed
+unfolding stageAs
 open-as f sh code bs Wren = refl
 open-as f sh code bs Wrdi = refl
 open-as f sh code bs Rdsr = refl
@@ -155,7 +153,7 @@ open-as f sh code bs Write = open-in f sh true (progress f (twoBytes f) code bs)
 open-as f sh code bs Other = refl
 
 open-of : (f : Figure) (sh : Shift) (bs : List Byte) → close.isClosed (stageOf f sh bs) ≡ false
-unfolding stageOf close.isClosed
+unfolding stageOf
 open-of f sh [] = refl
 open-of f sh (op ∷ bs) = open-as f sh (op .value) bs (command (f .codes) (op .value))
 
@@ -166,7 +164,7 @@ open-stage f sh bs stage e = sym (settle-closed stage) ∙ ap close.isClosed e �
 drops-write :
     (f : Figure) (sh : Shift) (code : ℕ) (bs : List Byte) → Header (f .«address_bytes») (f .codes .top)
     → close.drops (stageIn f sh true (progress f (twoBytes f) code bs)) ≡ atLeastOne (drop (f .«address_bytes») bs)
-unfolding stageIn progress close.drops atLeastOne
+unfolding stageIn progress atLeastOne
 drops-write f sh code [] (one k n t) = rw n
 drops-write f sh code (l ∷ bs) (one k n t) = rw n
 drops-write f sh code [] (two n t) = rw n
@@ -174,7 +172,7 @@ drops-write f sh code (u ∷ []) (two n t) = rw n
 drops-write f sh code (u ∷ l ∷ bs) (two n t) = rw n
 
 drops-read : (f : Figure) (sh : Shift) (p : Progress) → close.drops (stageIn f sh false p) ≡ false
-unfolding stageIn close.drops
+unfolding stageIn
 drops-read f sh upper = refl
 drops-read f sh (lower page) = refl
 drops-read f sh (past start bs) = refl
@@ -182,7 +180,7 @@ drops-read f sh (past start bs) = refl
 drops-as :
     (f : Figure) (sh : Shift) (code : ℕ) (bs : List Byte) → Header (f .«address_bytes») (f .codes .top) → (c : Command)
     → close.drops (stageAs f sh code bs c) ≡ drops (readAs f code bs c)
-unfolding stageAs readAs close.drops drops atLeastOne
+unfolding stageAs readAs drops atLeastOne
 drops-as f sh code bs h Wren = refl
 drops-as f sh code bs h Wrdi = refl
 drops-as f sh code bs h Rdsr = refl
@@ -195,7 +193,7 @@ drops-as f sh code bs h Other = refl
 drops-of :
     (f : Figure) (sh : Shift) (bs : List Byte) → Header (f .«address_bytes») (f .codes .top)
     → close.drops (stageOf f sh bs) ≡ drops (reading f bs)
-unfolding stageOf reading close.drops drops
+unfolding stageOf reading drops
 drops-of f sh [] h = refl
 drops-of f sh (op ∷ bs) h = drops-as f sh (op .value) bs h (command (f .codes) (op .value))
 

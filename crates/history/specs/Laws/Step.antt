@@ -114,7 +114,7 @@ module _ (part : ℕ) (fair : Fair (figureOf part)) where
         → Follows (linesOf sck si wp hold (isOutside p)) p w (chipOf part v sck si wp hold stage) code
 
     cs-low : After 0
-    unfolding after refused put act placed base worldAt step live csLevel isClosed isOff csFall written
+    unfolding after refused put act placed base worldAt step live csFall written
     cs-low sck Off _ _ _ closed = on (inside []) w w sck si wp Off _ (select-fresh (figureOf part) w)
     cs-low sck Off _ _ _ (going bs whole r v stage c e) =
         let s = going bs whole r v stage c e in
@@ -138,7 +138,7 @@ module _ (part : ℕ) (fair : Fair (figureOf part)) where
     closing sck false false kept array = on outside _ _ sck si wp Off Closed closed
 
     cs-high : After 1
-    unfolding after refused put act placed base step live csLevel isClosed isOff csRise written
+    unfolding after refused put act placed base step live csRise written
     cs-high sck Off _ _ _ closed = on outside w w sck si wp Off Closed closed
     cs-high sck Off _ _ _ (going bs whole r v stage c e) =
         let s = going bs whole r v stage c e in
@@ -148,7 +148,7 @@ module _ (part : ℕ) (fair : Fair (figureOf part)) where
     cs-high sck OnHigh p v stage s = on p w v sck si wp OnHigh stage s
 
     sck-low : After 2
-    unfolding after refused put act placed base step live isOff sckFall written
+    unfolding after refused put act placed base step live sckFall written
     sck-low true Off p v stage s =
         on p w v false si wp Off _ (select-fall (figureOf part) w (v .array) (statusByte (v .kept) (v .latch)) s)
     sck-low true OnLow p v stage s = on p w v false si wp OnLow stage s
@@ -156,7 +156,7 @@ module _ (part : ℕ) (fair : Fair (figureOf part)) where
     sck-low false hold p v stage s = on p w v false si wp hold stage s
 
     sck-high : After 3
-    unfolding after refused put act placed base step live isOff sckRise rise written
+    unfolding after refused put act placed base step live sckRise rise written
     sck-high false Off _ _ _ closed = on outside w w true si wp Off Closed closed
     sck-high false Off _ _ _ (going bs whole r v stage c e) =
         let s = going bs whole r v stage c e in
@@ -174,7 +174,7 @@ module _ (part : ℕ) (fair : Fair (figureOf part)) where
     si-high sck hold p v stage s = on p w v sck true wp hold stage s
 
     hold-low : After 6
-    unfolding after refused put act placed base step live isOff isClosed holdFall written
+    unfolding after refused put act placed base step live holdFall written
     hold-low true Off p v stage s = on p w v true si wp Off stage s
     hold-low false Off _ _ _ closed = on outside w w false si wp OnHigh Closed closed
     hold-low false Off _ _ _ (going bs whole r v stage c e) =
@@ -184,7 +184,7 @@ module _ (part : ℕ) (fair : Fair (figureOf part)) where
     hold-low sck OnHigh p v stage s = on p w v sck si wp OnHigh stage s
 
     hold-high : After 7
-    unfolding after refused put act placed base step live isOff csStayed csLevel isClosed holdRise written
+    unfolding after refused put act placed base step live csStayed holdRise written
     hold-high sck Off p v stage s = on p w v sck si wp Off stage s
     hold-high true OnLow p v stage s = on p w v true si wp OnLow stage s
     hold-high true OnHigh p v stage s = on p w v true si wp OnHigh stage s

@@ -12,7 +12,7 @@ drops-requires c κs = search needs
 
 returns : tie.Need-returns
 unfolding csRise
-returns c = simp (← c .before .before .drops .ensures, ← c .before .before .before .before .is-off .ensures, c .if2 .taken, c .before .before .before .if1 .taken)
+returns c = rw (← c .before .before .drops .ensures, ← c .before .before .before .before .is-off .ensures, c .if2 .taken, c .before .before .before .if1 .taken)
 
 returns-2 : tie.Need-returns-2
 unfolding csRise
