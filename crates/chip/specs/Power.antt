@@ -18,13 +18,12 @@ fillRefusal part len = cond (not (isPart part)) 1 (cond (not (fitsPart part len)
 unfoldable pub filled : ℕ → List ℕ → List ℕ
 filled part xs = cond (eqb (fillRefusal part (length xs)) 0) (replicate (length xs) 0) xs
 
--- "Power-up checks 1, 2, 3."
+-- "Power-up checks 1, 2, 3.": those two, then the mask
 unfoldable pub powerRefusal : ℕ → ℕ → ℕ → ℕ
 powerRefusal part kept len =
-    cond (not (isPart part)) 1
-    (cond (not (fitsPart part len)) 2
-    (cond (not (inMask part kept)) 3
-    0))
+    cond (eqb (fillRefusal part len) 0)
+    (cond (inMask part kept) 0 3)
+    (fillRefusal part len)
 
 -- "A refused power-up returns part 1 in the off state with kept bits 0." "An accepted power-up call gives that
 --  state too."

@@ -11,8 +11,8 @@ pub struct Powered {
     pub state: State,
 }
 
-fn power_refusal(part: u64, kept: u64, len: usize) -> u8
-    ensures { λ r. ⌜ r ≡ powerRefusal part kept len ⌝ }
+fn fill_refusal(part: u64, len: usize) -> u8
+    ensures { λ r. ⌜ r ≡ fillRefusal part len ⌝ }
 {
     if !is_part(part) {
         return 1;
@@ -21,6 +21,17 @@ fn power_refusal(part: u64, kept: u64, len: usize) -> u8
     if len != f.size {
         return 2;
     }
+    0
+}
+
+fn power_refusal(part: u64, kept: u64, len: usize) -> u8
+    ensures { λ r. ⌜ r ≡ powerRefusal part kept len ⌝ }
+{
+    let refusal = fill_refusal(part, len);
+    if refusal != 0 {
+        return refusal;
+    }
+    let f = figure_of(part);
     if kept & (f.kept as u64) != kept {
         return 3;
     }
@@ -37,19 +48,6 @@ pub fn power_up(part: u64, kept: u64, array: &[u8]) -> Powered
     }
     let state = State::at_rest(part as u8, kept as u8, true);
     Powered { refusal, state }
-}
-
-fn fill_refusal(part: u64, len: usize) -> u8
-    ensures { λ r. ⌜ r ≡ fillRefusal part len ⌝ }
-{
-    if !is_part(part) {
-        return 1;
-    }
-    let f = figure_of(part);
-    if len != f.size {
-        return 2;
-    }
-    0
 }
 
 // Every byte of the array set to one value.

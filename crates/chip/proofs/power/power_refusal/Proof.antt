@@ -1,36 +1,32 @@
--- The tests come in the order of the refusals.
+-- The fill's two refusals first, then the mask.
 use borrow.Author.Tests.{eq-eqb, ne-eqb}
 use Rattle.chip.specs.Power.{powerRefusal}
 use borrow.Author.Needs.{needs}
 use Rattle.chip.proofs.power.power_refusal.Statement.{statement}
 use Rattle.chip.proofs.power.power_refusal.Tie as tie
 
-is-part-requires : tie.Need-is-part-requires
-is-part-requires c κs = search needs
+fill-refusal-requires : tie.Need-fill-refusal-requires
+fill-refusal-requires c κs = search needs
 
 returns : tie.Need-returns
 unfolding powerRefusal
-returns c = simp (← c .before .is-part .ensures, c .if1 .taken)
+returns c = simp (← c .before .fill-refusal .ensures, ne-eqb _ _ (c .if1 .taken))
 
 figure-of-requires : tie.Need-figure-of-requires
 figure-of-requires c κs = search needs
 
+cast-if2 : tie.Need-cast-if2
+cast-if2 c = search needs
+
 returns-2 : tie.Need-returns-2
 unfolding powerRefusal
-returns-2 c = simp (← c .before .before .figure-of .ensures, ← c .before .before .before .before .is-part .ensures, ne-eqb _ _ (c .if2 .taken), c .before .before .before .if1 .left)
-
-cast-if3 : tie.Need-cast-if3
-cast-if3 c = search needs
+returns-2 c = simp (← c .before .before .figure-of .ensures, ← c .before .before .before .before .fill-refusal .ensures, ne-eqb _ _ (c .if2 .taken), eq-eqb _ _ (c .before .before .before .if1 .left))
 
 returns-3 : tie.Need-returns-3
 unfolding powerRefusal
-returns-3 c = simp (← c .before .before .before .before .figure-of .ensures, ← c .before .before .before .before .before .before .is-part .ensures, ne-eqb _ _ (c .if3 .taken), eq-eqb _ _ (c .before .before .if2 .left), c .before .before .before .before .before .if1 .left)
-
-returns-4 : tie.Need-returns-4
-unfolding powerRefusal
-returns-4 c = simp (← c .before .before .before .before .figure-of .ensures, ← c .before .before .before .before .before .before .is-part .ensures, eq-eqb _ _ (c .if3 .left), eq-eqb _ _ (c .before .before .if2 .left), c .before .before .before .before .before .if1 .left)
+returns-3 c = simp (← c .before .before .figure-of .ensures, ← c .before .before .before .before .fill-refusal .ensures, eq-eqb _ _ (c .if2 .left), eq-eqb _ _ (c .before .before .before .if1 .left))
 
 pub power-refusal-spec : {M : Type 1} → statement M
 power-refusal-spec =
     tie.close
-    (tie.spec is-part-requires returns figure-of-requires returns-2 cast-if3 returns-3 returns-4)
+    (tie.spec fill-refusal-requires returns figure-of-requires cast-if2 returns-2 returns-3)
