@@ -1,6 +1,5 @@
 pub mod Items
 pub mod Text
-pub mod Words
 pub mod Record
 pub mod RecordLaws
 pub mod Lines

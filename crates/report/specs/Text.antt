@@ -1,6 +1,8 @@
 -- Text in ASCII: a line that is built piece by piece, and numbers. Assumes nothing.
 use mathlib.Core.Path.{_≡_}
+use Prim.Native.Char.{code}
 use Prim.Native.Nat.{ℕ, zero, suc, _+_, _/_, _%_}
+use Prim.Native.String.{String, [] as none, _∷_ as _then_}
 use mathlib.Core.Bool.{cond}
 use mathlib.Core.List.{List, [], _∷_, _++_}
 use lib.Dec.{ltb}
@@ -10,9 +12,14 @@ use lib.ListN.{getD}
 pub record Adds (before piece after : List ℕ) : Type 0 where
   pub adds : after ≡ before ++ piece
 
--- "capital digits": 0 to 9, then A to F
+-- the bytes of a text
+abbrev pub ascii : String → List ℕ
+ascii none = []
+ascii (c then more) = code c ∷ ascii more
+
+-- "capital digits"
 unfoldable pub capitals : List ℕ
-capitals = 48 ∷ 49 ∷ 50 ∷ 51 ∷ 52 ∷ 53 ∷ 54 ∷ 55 ∷ 56 ∷ 57 ∷ 65 ∷ 66 ∷ 67 ∷ 68 ∷ 69 ∷ 70 ∷ []
+capitals = ascii "0123456789ABCDEF"
 
 -- "Hex is two capital digits a byte"
 unfoldable pub hex : ℕ → List ℕ

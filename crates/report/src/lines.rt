@@ -4,7 +4,7 @@ ghost use Prim.Native.Nat.{_+_, _≤_};
 ghost use lib.ListN.{length, take};
 ghost use Rattle.io.specs.Counts.{Counts};
 ghost use Rattle.report.specs.Text.{Adds};
-ghost use Rattle.report.specs.Lines.{codeText, shownText, latchText, partLine, countsText, selectLine, endLine};
+ghost use Rattle.report.specs.Lines.{codeText, shownText, numbered, partLine, countsText, selectLine, endLine};
 use crate::record::Record;
 use crate::text::put;
 use crate::text::put_decimal;
@@ -41,16 +41,14 @@ fn put_shown(out: &mut [u8; 256], at: usize, shown: &[u8], whole: u64) -> usize
     put(out, next, b"+")
 }
 
-// The latch, 0 or 1.
-fn put_latch(out: &mut [u8; 256], at: usize, latch: bool) -> usize
-    requires { ⌜ at + 1 ≤ 256 ⌝ }
-    ensures { λ r. ⌜ r ≡ at + 1 ⌝ }
-    ensures { λ r. ⌜ Adds (take at (now (out .entry))) (latchText latch) (take r (now (out .exit))) ⌝ }
+// A word and its number.
+fn put_numbered(out: &mut [u8; 256], at: usize, word: &[u8], n: u64) -> usize
+    requires { ⌜ at + length (now word) + 20 ≤ 256 ⌝ }
+    ensures { λ r. ⌜ r ≤ at + length (now (word .entry)) + 20 ⌝ }
+    ensures { λ r. ⌜ Adds (take at (now (out .entry))) (numbered (now (word .entry)) n) (take r (now (out .exit))) ⌝ }
 {
-    if latch {
-        return put(out, at, b"1");
-    }
-    put(out, at, b"0")
+    let next = put(out, at, word);
+    put_decimal(out, next, n)
 }
 
 // "Line 1: part, size, kept bits in hex".
@@ -58,10 +56,8 @@ pub fn part_line(out: &mut [u8; 256], part: u64, size: u64, kept: u8) -> usize
     ensures { λ r. ⌜ Counts r (now (out .exit)) ⌝ }
     ensures { λ r. ⌜ take r (now (out .exit)) ≡ partLine part size kept ⌝ }
 {
-    let at = put(out, 0, b"part ");
-    let at = put_decimal(out, at, part);
-    let at = put(out, at, b" bytes ");
-    let at = put_decimal(out, at, size);
+    let at = put_numbered(out, 0, b"part ", part);
+    let at = put_numbered(out, at, b" bytes ", size);
     let at = put(out, at, b" kept ");
     let at = put_hex(out, at, kept);
     put(out, at, b"\n")
@@ -75,10 +71,8 @@ fn put_counts(out: &mut [u8; 256], at: usize, told: Record) -> usize
 {
     let at = put(out, at, b" op ");
     let at = put_code(out, at, told.clocks, told.code);
-    let at = put(out, at, b" clocks ");
-    let at = put_decimal(out, at, told.clocks);
-    let at = put(out, at, b" stored ");
-    put_decimal(out, at, told.stored)
+    let at = put_numbered(out, at, b" clocks ", told.clocks);
+    put_numbered(out, at, b" stored ", told.stored)
 }
 
 // A select's line, by its number, its record and the first bytes of SO.
@@ -86,8 +80,7 @@ pub fn select_line(out: &mut [u8; 256], number: u64, told: Record, shown: &[u8; 
     ensures { λ r. ⌜ Counts r (now (out .exit)) ⌝ }
     ensures { λ r. ⌜ take r (now (out .exit)) ≡ selectLine number told (now (shown .entry)) ⌝ }
 {
-    let at = put(out, 0, b"sel ");
-    let at = put_decimal(out, at, number);
+    let at = put_numbered(out, 0, b"sel ", number);
     let at = put(out, at, b" so ");
     let at = put_shown(out, at, shown, told.shown);
     let at = put_counts(out, at, told);
@@ -101,9 +94,7 @@ pub fn end_line(out: &mut [u8; 256], kept: u8, latch: bool, refusal: u8) -> usiz
 {
     let at = put(out, 0, b"end kept ");
     let at = put_hex(out, at, kept);
-    let at = put(out, at, b" latch ");
-    let at = put_latch(out, at, latch);
-    let at = put(out, at, b" refused ");
-    let at = put_decimal(out, at, refusal as u64);
+    let at = put_numbered(out, at, b" latch ", latch as u64);
+    let at = put_numbered(out, at, b" refused ", refusal as u64);
     put(out, at, b"\n")
 }

@@ -6,24 +6,7 @@ ghost use lib.ListN.{getD, length, take};
 ghost use Rattle.report.specs.Text.{Adds, capitals, hex, hexes, decimal};
 
 // "Hex is two capital digits a byte".
-const CAPITALS: [u8; 16] = [
-    b'0',
-    b'1',
-    b'2',
-    b'3',
-    b'4',
-    b'5',
-    b'6',
-    b'7',
-    b'8',
-    b'9',
-    b'A',
-    b'B',
-    b'C',
-    b'D',
-    b'E',
-    b'F',
-];
+const CAPITALS: [u8; 16] = *b"0123456789ABCDEF";
 
 // The capital digit of a number below 16.
 fn capital(n: usize) -> u8

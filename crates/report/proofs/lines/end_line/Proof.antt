@@ -1,5 +1,7 @@
--- Each piece adds its text after the one before, and all of it fits.
-use mathlib.Core.Path.{sym}
+-- Each piece adds its text after the one before, and all of it fits; the latch is a number.
+use mathlib.Core.Bool.{Bool, true, false, cond}
+use mathlib.Core.Path.{_≡_, refl, sym}
+use mir.Val.{boolByte}
 use Prim.Native.Nat.{_≤_}
 use native.Mathlib.Omega.{arith}
 use lib.ListN.{length}
@@ -19,36 +21,38 @@ put-requires c κs = search needs
 put-hex-requires : tie.Need-put-hex-requires
 put-hex-requires c κs = search needs
 
+slice-aggregate-put-numbered : tie.Need-slice-aggregate-put-numbered
+slice-aggregate-put-numbered c = search needs
+
+cast-put-numbered : tie.Need-cast-put-numbered
+cast-put-numbered c = search needs
+
+put-numbered-requires : tie.Need-put-numbered-requires
+put-numbered-requires c κs = search needs
+
+slice-aggregate-put-numbered-2 : tie.Need-slice-aggregate-put-numbered-2
+slice-aggregate-put-numbered-2 c = search needs
+
+put-numbered-requires-2 : tie.Need-put-numbered-requires-2
+put-numbered-requires-2 c κs = search needs
+
 slice-aggregate-put-2 : tie.Need-slice-aggregate-put-2
 slice-aggregate-put-2 c = search needs
 
 put-requires-2 : tie.Need-put-requires-2
 put-requires-2 c κs = search needs
 
-put-latch-requires : tie.Need-put-latch-requires
-put-latch-requires c κs = search needs
-
-slice-aggregate-put-3 : tie.Need-slice-aggregate-put-3
-slice-aggregate-put-3 c = search needs
-
-put-requires-3 : tie.Need-put-requires-3
-put-requires-3 c κs = search needs
-
-put-decimal-requires : tie.Need-put-decimal-requires
-put-decimal-requires c κs = search needs
-
-slice-aggregate-put-4 : tie.Need-slice-aggregate-put-4
-slice-aggregate-put-4 c = search needs
-
-put-requires-4 : tie.Need-put-requires-4
-put-requires-4 c κs = search needs
+-- a flag as a number
+digit : (on : Bool) → boolByte on ≡ cond on 1 0
+digit true = refl
+digit false = refl
 
 returns : tie.Need-returns
 unfolding endLine
 returns c =
-    let within : c .put4 .result ≤ length (c .put4 .last .0) = omega (arith, c .put4 .kept .0, c .before .before .put-arg7 .given .0 .1) in (
+    let within : c .put2 .result ≤ length (c .put2 .last .0) = omega (arith, c .put2 .kept .0, c .before .before .put-arg3 .given .0 .1) in (
       (within, sym (length-take-le _ _ within)),
-      line (on (on (on (on (on (on (c .before .before .before .before .before .before .before .before .before .before .before .before .before .before .before .put .ensures .1) (c .before .before .before .before .before .before .before .before .before .before .before .before .before .put-hex .ensures .1)) (c .before .before .before .before .before .before .before .before .before .before .put2 .ensures .1)) (c .before .before .before .before .before .before .before .before .put-latch .ensures .1)) (c .before .before .before .before .before .put3 .ensures .1)) (c .before .before .before .put-decimal .ensures .1)) (c .put4 .ensures .1)),
+      rw (digit _) at (line (on (on (on (on (c .before .before .before .before .before .before .before .before .before .before .before .put .ensures .1) (c .before .before .before .before .before .before .before .before .before .put-hex .ensures .1)) (c .before .before .before .before .before .before .put-numbered .ensures .1)) (c .before .before .before .put-numbered2 .ensures .1)) (c .put2 .ensures .1))),
     )
 
 pub end-line-spec : {M : Type 1} → statement M
@@ -58,12 +62,11 @@ end-line-spec =
     slice-aggregate-put
     put-requires
     put-hex-requires
+    slice-aggregate-put-numbered
+    cast-put-numbered
+    put-numbered-requires
+    slice-aggregate-put-numbered-2
+    put-numbered-requires-2
     slice-aggregate-put-2
     put-requires-2
-    put-latch-requires
-    slice-aggregate-put-3
-    put-requires-3
-    put-decimal-requires
-    slice-aggregate-put-4
-    put-requires-4
     returns)

@@ -15,27 +15,21 @@ put-requires c κs = search needs
 put-code-requires : tie.Need-put-code-requires
 put-code-requires c κs = search needs
 
-slice-aggregate-put-2 : tie.Need-slice-aggregate-put-2
-slice-aggregate-put-2 c = search needs
+slice-aggregate-put-numbered : tie.Need-slice-aggregate-put-numbered
+slice-aggregate-put-numbered c = search needs
 
-put-requires-2 : tie.Need-put-requires-2
-put-requires-2 c κs = search needs
+put-numbered-requires : tie.Need-put-numbered-requires
+put-numbered-requires c κs = search needs
 
-put-decimal-requires : tie.Need-put-decimal-requires
-put-decimal-requires c κs = search needs
+slice-aggregate-put-numbered-2 : tie.Need-slice-aggregate-put-numbered-2
+slice-aggregate-put-numbered-2 c = search needs
 
-slice-aggregate-put-3 : tie.Need-slice-aggregate-put-3
-slice-aggregate-put-3 c = search needs
-
-put-requires-3 : tie.Need-put-requires-3
-put-requires-3 c κs = search needs
-
-put-decimal-requires-2 : tie.Need-put-decimal-requires-2
-put-decimal-requires-2 c κs = search needs
+put-numbered-requires-2 : tie.Need-put-numbered-requires-2
+put-numbered-requires-2 c κs = search needs
 
 returns : tie.Need-returns
 unfolding countsText
-returns c = (omega arith, on (on (on (on (on (c .before .before .before .before .before .before .before .before .before .before .before .before .put .ensures .1) (c .before .before .before .before .before .before .before .before .before .before .put-code .ensures .1)) (c .before .before .before .before .before .before .before .put2 .ensures .1)) (c .before .before .before .before .before .put-decimal .ensures .1)) (c .before .before .put3 .ensures .1)) (c .put-decimal2 .ensures .1))
+returns c = (omega arith, on (on (on (c .before .before .before .before .before .before .before .before .put .ensures .1) (c .before .before .before .before .before .before .put-code .ensures .1)) (c .before .before .before .put-numbered .ensures .1)) (c .put-numbered2 .ensures .1))
 
 pub put-counts-spec : {M : Type 1} → statement M
 put-counts-spec =
@@ -44,10 +38,8 @@ put-counts-spec =
     slice-aggregate-put
     put-requires
     put-code-requires
-    slice-aggregate-put-2
-    put-requires-2
-    put-decimal-requires
-    slice-aggregate-put-3
-    put-requires-3
-    put-decimal-requires-2
+    slice-aggregate-put-numbered
+    put-numbered-requires
+    slice-aggregate-put-numbered-2
+    put-numbered-requires-2
     returns)

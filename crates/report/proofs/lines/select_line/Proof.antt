@@ -10,20 +10,17 @@ use borrow.Author.Needs.{needs}
 use Rattle.report.proofs.lines.select_line.Statement.{statement}
 use Rattle.report.proofs.lines.select_line.Tie as tie
 
+slice-aggregate-put-numbered : tie.Need-slice-aggregate-put-numbered
+slice-aggregate-put-numbered c = search needs
+
+put-numbered-requires : tie.Need-put-numbered-requires
+put-numbered-requires c κs = search needs
+
 slice-aggregate-put : tie.Need-slice-aggregate-put
 slice-aggregate-put c = search needs
 
 put-requires : tie.Need-put-requires
 put-requires c κs = search needs
-
-put-decimal-requires : tie.Need-put-decimal-requires
-put-decimal-requires c κs = search needs
-
-slice-aggregate-put-2 : tie.Need-slice-aggregate-put-2
-slice-aggregate-put-2 c = search needs
-
-put-requires-2 : tie.Need-put-requires-2
-put-requires-2 c κs = search needs
 
 put-shown-requires : tie.Need-put-shown-requires
 put-shown-requires c κs = search needs
@@ -31,31 +28,30 @@ put-shown-requires c κs = search needs
 put-counts-requires : tie.Need-put-counts-requires
 put-counts-requires c κs = search needs
 
-slice-aggregate-put-3 : tie.Need-slice-aggregate-put-3
-slice-aggregate-put-3 c = search needs
+slice-aggregate-put-2 : tie.Need-slice-aggregate-put-2
+slice-aggregate-put-2 c = search needs
 
-put-requires-3 : tie.Need-put-requires-3
-put-requires-3 c κs = search needs
+put-requires-2 : tie.Need-put-requires-2
+put-requires-2 c κs = search needs
 
 returns : tie.Need-returns
 unfolding selectLine
 returns c =
-    let within : c .put3 .result ≤ length (c .put3 .last .0) = omega (arith, c .put3 .kept .0, c .before .before .put-arg5 .given .0 .1) in (
+    let within : c .put2 .result ≤ length (c .put2 .last .0) = omega (arith, c .put2 .kept .0, c .before .before .put-arg3 .given .0 .1) in (
       (within, sym (length-take-le _ _ within)),
-      line (on (on (on (on (on (c .before .before .before .before .before .before .before .before .before .before .before .before .before .put .ensures .1) (c .before .before .before .before .before .before .before .before .before .before .before .put-decimal .ensures .1)) (c .before .before .before .before .before .before .before .before .put2 .ensures .1)) (c .before .before .before .before .before .put-shown .ensures .1)) (c .before .before .before .put-counts .ensures .1)) (c .put3 .ensures .1)),
+      line (on (on (on (on (c .before .before .before .before .before .before .before .before .before .before .before .put-numbered .ensures .1) (c .before .before .before .before .before .before .before .before .put .ensures .1)) (c .before .before .before .before .before .put-shown .ensures .1)) (c .before .before .before .put-counts .ensures .1)) (c .put2 .ensures .1)),
     )
 
 pub select-line-spec : {M : Type 1} → statement M
 select-line-spec =
     tie.close
     (tie.spec
+    slice-aggregate-put-numbered
+    put-numbered-requires
     slice-aggregate-put
     put-requires
-    put-decimal-requires
-    slice-aggregate-put-2
-    put-requires-2
     put-shown-requires
     put-counts-requires
-    slice-aggregate-put-3
-    put-requires-3
+    slice-aggregate-put-2
+    put-requires-2
     returns)

@@ -1,0 +1,18 @@
+-- The word, then the number behind it.
+use native.Mathlib.Omega.{arith}
+use Rattle.report.proofs.Pieces.{on}
+use borrow.Author.Needs.{needs}
+use Rattle.report.proofs.lines.put_numbered.Statement.{statement}
+use Rattle.report.proofs.lines.put_numbered.Tie as tie
+
+put-requires : tie.Need-put-requires
+put-requires c κs = search needs
+
+put-decimal-requires : tie.Need-put-decimal-requires
+put-decimal-requires c κs = search needs
+
+returns : tie.Need-returns
+returns c = (omega arith, on (c .before .before .put .ensures .1) (c .put-decimal .ensures .1))
+
+pub put-numbered-spec : {M : Type 1} → statement M
+put-numbered-spec = tie.close (tie.spec put-requires put-decimal-requires returns)
