@@ -10,6 +10,7 @@ use libc::STDIN_FILENO;
 use libc::STDOUT_FILENO;
 use lines::state::State;
 use lines::watch::is_open;
+use parts::figures::LARGEST;
 use parts::figures::figure_of;
 use report::items::event_of;
 use report::items::events_of;
@@ -19,9 +20,6 @@ use report::lines::select_line;
 use trace::answer::Read;
 use trace::answer::number_of;
 use trace::reader::number_at;
-
-// The largest array of a part.
-const LARGEST: usize = 2048;
 
 // What stands on the bench after some events, and the refusal that stopped them, or 0.
 pub struct Turn {

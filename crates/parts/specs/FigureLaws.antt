@@ -1,11 +1,14 @@
 -- What every rule may rely on in a part's row, whichever part it is. A new row is checked here, once. Assumes nothing.
 use Prim.Native.Nat.{ℕ, zero, suc, _+_, _*_, _<_, _≤_, _-_, _^_}
 use mathlib.Core.Path.{_≡_, refl, sym, _∙_}
-use mathlib.Core.Bool.{true, false}
+use mathlib.Core.Bool.{Bool, true, false, _&&_}
+use mathlib.Core.List.{List, [], _∷_}
 use native.Mathlib.Omega.{arith}
-use borrow.Author.Tests.{lt-ltb, le-ltb, eqb-false}
-use lib.Dec.{lit<, lit≤}
-use Rattle.parts.specs.Figures.{figureOf, isPart}
+use borrow.Author.Tests.{lt-ltb, le-ltb, eqb-false, leb-true}
+use lib.Dec.{leb, lit<, lit≤}
+use lib.ListN.{getD}
+use Rattle.parts.specs.Figures.{none, parts, figureOf, isPart}
+use Rattle.parts.specs.TestLaws.{left, right}
 use Rattle.parts.specs.declared.figures.Figure.{Figure}
 
 -- where the address stands: its top bit in the op-code and the rest in one byte, or two bytes
@@ -38,3 +41,18 @@ fair (suc zero) h = record { mask = lit< tt; pages = refl; top = lit≤ tt; bits
 fair (suc (suc zero)) h = record { mask = lit< tt; pages = refl; top = lit≤ tt; bits = 1; low = refl; header = one 3 refl refl }
 fair (suc (suc (suc zero))) h = record { mask = lit< tt; pages = refl; top = lit≤ tt; bits = 3; low = refl; header = two refl refl }
 fair (suc (suc (suc (suc part)))) h = absurd (eqb-false 0 1 refl (clash (sym (beyond part) ∙ h)))
+
+every : (Figure → Bool) → List Figure → Bool
+every test [] = true
+every test (f ∷ fs) = test f && every test fs
+
+row : (test : Figure → Bool) (fs : List Figure) → every test fs ≡ true → test none ≡ true → (k : ℕ) → test (getD fs k none) ≡ true
+unfolding every
+row test [] h n k = n
+row test (f ∷ fs) h n zero = left (test f) (every test fs) h
+row test (f ∷ fs) h n (suc k) = row test fs (right (test f) (every test fs) h) n k
+
+-- no array is larger than LARGEST (src/figures.rt); a number that is no part's has none
+pub largest : (part : ℕ) → figureOf part .size ≤ 2048
+unfolding figureOf every
+largest part = leb-true (figureOf part .size) 2048 (row (λ f. leb (f .size) 2048) parts refl refl part)

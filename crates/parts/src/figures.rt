@@ -112,6 +112,9 @@ pub const PARTS: [Figure; 4] = [
     },
 ];
 
+// The largest array's bytes, for whoever lends one to a part that is not known yet (`largest`, specs/FigureLaws).
+pub const LARGEST: usize = 2048;
+
 // Whether there is a part of this number.
 pub fn is_part(part: u64) -> bool
     ensures { λ r. ⌜ r ≡ isPart part ⌝ }

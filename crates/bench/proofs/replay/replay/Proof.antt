@@ -1,7 +1,7 @@
 -- No part's array is larger than the one that is lent.
 use mathlib.Core.Path.{sym}
 use lib.Seq.{length-take-le}
-use Rattle.bench.proofs.Sizes.{largest}
+use Rattle.parts.specs.FigureLaws.{largest}
 use borrow.Author.Needs.{needs}
 use Rattle.bench.proofs.replay.replay.Statement.{statement}
 use Rattle.bench.proofs.replay.replay.Tie as tie
