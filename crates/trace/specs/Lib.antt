@@ -4,3 +4,10 @@ pub mod Form
 pub mod Number
 pub mod Scan
 pub mod Reader
+pub mod ByteLaws
+pub mod SpellingLaws
+pub mod ScanLaws
+pub mod WriteLaws
+pub mod NumberLaws
+pub mod Outcomes
+pub mod Examples

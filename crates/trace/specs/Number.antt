@@ -5,30 +5,31 @@ use mathlib.Core.List.{List, _++_}
 use lib.Dec.{ltb, eqb}
 use lib.ListN.{length, take, drop}
 use Rattle.trace.specs.Figures.{groups, largest}
-use Rattle.trace.specs.Answers.{Told, accepted, ended, placed, refused}
+use Rattle.trace.specs.Answers.{Told, accepted, ended, placed, refused, numberOf}
+use Rattle.trace.specs.declared.answer.Refusal.the-variants.{Malformed, TooLarge, Beyond, NoRoom}
 use Rattle.trace.specs.Form.{bytes, value, misshapen, form}
 
 -- The bytes of a number that begins at a place before the end: 8, then 9; else
 -- "An accepted read gives the number and the place after it".
 abbrev pub judged : List ℕ → ℕ → Told
 judged bs at =
-    cond (misshapen groups bs) (refused 8 at)
-    (cond (ltb largest (value bs)) (refused 9 at)
+    cond (misshapen groups bs) (refused (numberOf Malformed) at)
+    (cond (ltb largest (value bs)) (refused (numberOf TooLarge) at)
     (accepted (value bs) (at + length bs)))
 
 -- "Reading a number checks 10, 8, 9." "Reading at the slice's very end answers "end"."
 unfoldable pub reading : List ℕ → ℕ → Told
 reading s at =
-    cond (ltb (length s) at) (refused 10 at)
+    cond (ltb (length s) at) (refused (numberOf Beyond) at)
     (cond (eqb at (length s)) (ended at)
     (judged (bytes (drop at s)) at))
 
 -- "Writing checks 9, 10, 11; 11 is given when fewer bytes remain than the number's form takes."
 unfoldable pub writing : List ℕ → ℕ → ℕ → Told
 writing s at n =
-    cond (ltb largest n) (refused 9 at)
-    (cond (ltb (length s) at) (refused 10 at)
-    (cond (ltb (length s - at) (length (form n))) (refused 11 at)
+    cond (ltb largest n) (refused (numberOf TooLarge) at)
+    (cond (ltb (length s) at) (refused (numberOf Beyond) at)
+    (cond (ltb (length s - at) (length (form n))) (refused (numberOf NoRoom) at)
     (placed (at + length (form n)))))
 
 -- "an accepted write .. changes only the number's own bytes"

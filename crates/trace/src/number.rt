@@ -109,7 +109,7 @@ pub fn write_at(s: &mut [u8], at: usize, value: u64) -> Written
     Written::Placed { next }
 }
 
-// A refused write gives the same.
+// A refused write gives the refusal and the place given.
 fn unwritten(refusal: Refusal, at: usize) -> Written
     ensures { λ r. ⌜ r ≡ Written.Refused refusal at ⌝ }
 {

@@ -5,7 +5,7 @@ use mathlib.Core.Path.{sym, ap, _∙_}
 use native.Mathlib.Omega.{arith}
 use Prim.Native.Nat.{_-_}
 use Rattle.trace.specs.Answers.{readTold}
-use Rattle.trace.proofs.Laws.{forward}
+use Rattle.trace.specs.NumberLaws.{forward}
 use Rattle.numbers.proofs.list.Statement.{statement}
 use Rattle.numbers.proofs.list.Tie as tie
 

@@ -12,7 +12,7 @@ use lib.ListN.{getD}
 use Rattle.trace.specs.declared.number.Shape.the-variants.{Whole}
 use Rattle.trace.specs.Scan.{scanned}
 use Rattle.trace.proofs.Packing.{low-group, joined, eight-groups}
-use Rattle.trace.proofs.Scanning.{extended, scanned-none, scanned-past, scanned-last, scanned-more, scanned-small}
+use Rattle.trace.specs.ScanLaws.{extended, scanned-none, scanned-past, scanned-last, scanned-more, scanned-small}
 use Rattle.trace.proofs.number.scan.Reads as scan
 use Rattle.trace.proofs.number.scan.Kinds as scan-kinds
 use Rattle.trace.proofs.number.+scan.Lts-scan as scan-lts

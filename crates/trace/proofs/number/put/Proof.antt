@@ -8,7 +8,7 @@ use native.Mathlib.Omega.{arith}
 use Prim.Native.Nat.{_+_}
 use Rattle.trace.specs.Form.{form}
 use Rattle.trace.proofs.Packing.{goes-on}
-use Rattle.trace.proofs.Spelling.{form-one, form-more, form-length}
+use Rattle.trace.specs.SpellingLaws.{form-one, form-more, form-length}
 use Rattle.trace.proofs.number.put.Statement.{statement}
 use Rattle.trace.proofs.number.put.Tie as tie
 

@@ -6,7 +6,7 @@ use native.Mathlib.Omega.{arith}
 use Rattle.trace.specs.declared.number.Shape.{Shape}
 use Rattle.trace.specs.Answers.{readTold}
 use Rattle.trace.specs.Number.{reading}
-use Rattle.trace.proofs.Scanning.{sized, reading-beyond, reading-end, reading-inside}
+use Rattle.trace.specs.ScanLaws.{sized, reading-beyond, reading-end, reading-inside}
 use Rattle.trace.proofs.number.read_at.Statement.{statement}
 use Rattle.trace.proofs.number.read_at.Tie as tie
 

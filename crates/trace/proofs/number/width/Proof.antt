@@ -4,7 +4,7 @@ use mathlib.Core.Path.{_≡_, ap}
 use native.Mathlib.Omega.{arith}
 use Prim.Native.Nat.{_+_}
 use Rattle.trace.specs.Form.{form}
-use Rattle.trace.proofs.Spelling.{few, form-one, form-length, form-spells}
+use Rattle.trace.specs.SpellingLaws.{few, form-one, form-length, form-spells}
 use Rattle.trace.proofs.number.width.Statement.{statement}
 use Rattle.trace.proofs.number.width.Tie as tie
 

@@ -9,7 +9,7 @@ use Prim.Native.Nat.{_+_, _-_, _≤_}
 use Rattle.trace.specs.Answers.{writtenTold, placed}
 use Rattle.trace.specs.Form.{form}
 use Rattle.trace.specs.Number.{writing}
-use Rattle.trace.proofs.Writing.{at-refusal, at-placing}
+use Rattle.trace.specs.WriteLaws.{at-refusal, at-placing}
 use Rattle.trace.proofs.number.write_at.Statement.{statement}
 use Rattle.trace.proofs.number.write_at.Tie as tie
 

@@ -5,7 +5,7 @@
 --     forward                          reading moves forward, and stays in the slice
 -- Assumes nothing.
 use mathlib.Core.Path.{_≡_, sym, ap, _∙_, subst}
-use mathlib.Core.Logic.{_⊎_, ⊎-elim}
+use mathlib.Core.Logic.{⊎-elim}
 use mathlib.Core.List.{List, [], _∷_, _++_, append-assoc}
 use Prim.Native.Nat.{ℕ, suc, _+_, _-_, _^_, _≤_, _<_}
 use native.Mathlib.Nat.{pow-succ', eq-or-lt-of-le}
@@ -18,11 +18,11 @@ use Rattle.trace.specs.Answers.{Told, accepted, ended, placed, refused}
 use Rattle.trace.specs.Form.{bytes, value, form}
 use Rattle.trace.specs.Number.{reading, writing, over, written}
 use Rattle.trace.specs.declared.number.Shape.the-variants.{Whole}
-use Rattle.trace.proofs.Bytes.{below, bytes-within, bytes-first, low-bytes}
-use Rattle.trace.proofs.Scanning.{sized, reading-beyond, reading-end, reading-inside, scanned-ill, scanned-well, scanned-spelt}
-use Rattle.trace.proofs.Spelling.{Spells, few, some-bytes, shaped, form-spells}
-use Rattle.trace.proofs.Spelling.{one-form as sole-form}
-use Rattle.trace.proofs.Writing.{at-placing}
+use Rattle.trace.specs.ByteLaws.{below, bytes-within, bytes-first, low-bytes}
+use Rattle.trace.specs.ScanLaws.{sized, reading-beyond, reading-end, reading-inside, scanned-ill, scanned-well, scanned-spelt}
+use Rattle.trace.specs.SpellingLaws.{Spells, few, some-bytes, shaped, form-spells}
+use Rattle.trace.specs.SpellingLaws.{one-form as sole-form}
+use Rattle.trace.specs.WriteLaws.{at-placing}
 
 -- ---- the form
 

@@ -19,8 +19,8 @@ use Rattle.trace.specs.Answers.{Told, accepted, ended, refused}
 use Rattle.trace.specs.Number.{reading}
 use Rattle.trace.specs.Form.{bytes, value, misshapen}
 use Rattle.trace.specs.Scan.{shape, scanned}
-use Rattle.trace.proofs.Bytes.{bytes-one, bytes-more}
-use Rattle.trace.proofs.Spelling.{Spells, one, more, Shaped, shaped, well-shaped, spelt-value, spelt-alone, few, some-bytes, misshapen-more, misshapen-zero}
+use Rattle.trace.specs.ByteLaws.{bytes-one, bytes-more}
+use Rattle.trace.specs.SpellingLaws.{Spells, one, more, Shaped, shaped, well-shaped, spelt-value, spelt-alone, few, some-bytes, misshapen-more, misshapen-zero}
 
 -- a low group before what was found after it
 abbrev pub extended : ℕ → Shape → Shape

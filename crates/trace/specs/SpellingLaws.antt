@@ -10,7 +10,7 @@ use native.Mathlib.Omega.{arith}
 use borrow.Author.Tests.{lt-leb, le-leb, lt-ltb, le-ltb, ne-eqb, eq-eqb}
 use lib.Dec.{ltb, eqb, leb·suc-suc}
 use lib.ListN.{length, getD}
-use Rattle.trace.proofs.Bytes.{below, bytes-one, bytes-more}
+use Rattle.trace.specs.ByteLaws.{below, bytes-one, bytes-more}
 use Rattle.trace.specs.Form.{goesOn, bytes, value, cutOff, last, notShortest, misshapen, spelt, form}
 
 -- `Spells bs n k`: bs are the groups of n, the low one first, at most k of them, and the last of several is not 0
