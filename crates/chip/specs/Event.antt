@@ -4,15 +4,15 @@ use mathlib.Core.Bool.{Bool, true, false, cond, not}
 use mathlib.Core.List.{List}
 use lib.ListN.{length, set}
 use lib.Dec.{eqb, leb}
-use Rattle.parts.specs.Figures.{figureOf}
+use Rattle.parts.specs.Figures.{figureOf, fitsPart}
 use Rattle.parts.specs.declared.figures.Figure.{Figure}
 use Rattle.stages.specs.Close.{isClosed}
 use Rattle.select.specs.declared.notes.Level.the-variants.{Released}
 use Rattle.select.specs.declared.notes.Note.{Note}
 use Rattle.select.specs.declared.notes.Note.the-variants.{Nothing, Latch, Stored, HeldBack, KeptSet, KeptHeldBack, PowerLost}
-use Rattle.lines.specs.Lines.{atRest, csLevel, soLevel}
-use Rattle.lines.specs.Edges.{still, withSi, withWp, csFall, csRise, sckRise, sckFall, holdFall, holdRise, cut}
-use Rattle.lines.specs.Sound.{isOff, sound}
+use Rattle.lines.specs.Lines.{holdHigh, csLevel, soLevel}
+use Rattle.lines.specs.Edges.{silent, csFall, csRise, sckRise, sckFall, siTo, holdFall, holdRise, wpTo, vddFall, vddRise}
+use Rattle.lines.specs.Sound.{sound}
 use Rattle.lines.specs.declared.state.State.{State}
 use Rattle.lines.specs.declared.state.Moved.{Moved}
 use Rattle.chip.specs.declared.event.Answer.{Answer}
@@ -27,38 +27,32 @@ refused number s = record { refusal = number; so = Released; note = Nothing; sta
 
 -- "Setting a pin to the level it has is accepted and has no effect."
 abbrev pub csTo : State → Bool → Moved
-csTo s true = cond (csLevel s) (still s) (csRise s)
-csTo s false = cond (csLevel s) (csFall s) (still s)
+csTo s true = cond (csLevel s) (silent s) (csRise s)
+csTo s false = cond (csLevel s) (csFall s) (silent s)
 
 abbrev pub sckTo : Figure → List ℕ → State → Bool → Moved
-sckTo f xs s true = cond (s .sck) (still s) (sckRise f s)
-sckTo f xs s false = cond (s .sck) (sckFall f xs s) (still s)
+sckTo f xs s true = cond (s .sck) (silent s) (sckRise f s)
+sckTo f xs s false = cond (s .sck) (sckFall f xs s) (silent s)
 
-abbrev pub siTo : State → Bool → Moved
-siTo s level = still (withSi s level)
-
--- "/HOLD may move only with SCK low, select open or not. It may rise only with /CS at the level it had when /HOLD
---  fell (H)." That level was high exactly where no select is open.
+-- "the level it had when /HOLD fell": high exactly where no select is open, since moves in hold are not seen
 unfoldable pub csStayed : State → Bool
 csStayed s = cond (isClosed (s .stage)) (csLevel s) (not (csLevel s))
 
+-- "/HOLD may move only with SCK low, select open or not. It may rise only with /CS at the level it had when /HOLD
+--  fell (H)." Else 6, "power on, /HOLD would move with SCK high", or 7, "power on, /HOLD would rise with /CS moved".
 abbrev pub holdTo : State → Bool → Answer
 holdTo s true =
-    cond (isOff (s .hold)) (accepted (still s))
+    cond (holdHigh (s .hold)) (accepted (silent s))
     (cond (s .sck) (refused 6 s)
     (cond (csStayed s) (accepted (holdRise s)) (refused 7 s)))
 holdTo s false =
-    cond (isOff (s .hold))
+    cond (holdHigh (s .hold))
     (cond (s .sck) (refused 6 s) (accepted (holdFall s)))
-    (accepted (still s))
-
--- "Its level is followed at all times with power on, during hold too."
-abbrev pub wpTo : State → Bool → Moved
-wpTo s level = still (withWp s level)
+    (accepted (silent s))
 
 abbrev pub vddTo : State → Bool → Moved
-vddTo s true = still s
-vddTo s false = cut s
+vddTo s true = silent s
+vddTo s false = vddFall s
 
 -- "Pins: 0 /CS, 1 SCK, 2 SI, 3 /HOLD, 4 /WP, 5 VDD."
 unfoldable pub live : Figure → List ℕ → State → ℕ → Bool → Answer
@@ -73,17 +67,14 @@ live f xs s pin level =
 -- "With power off, each event but 11 is accepted and has no effect." "Event 11 then gives the power-up state, with the
 --  note nothing."
 abbrev pub dark : State → ℕ → Answer
-dark s code = accepted (still (cond (eqb code 11) (atRest (s .part) (s .kept) true) s))
+dark s code = accepted (cond (eqb code 11) (vddRise s) (silent s))
 
 -- "its code is twice the pin number plus the level"
 unfoldable pub step : Figure → List ℕ → State → ℕ → Answer
 step f xs s code = cond (s .power) (live f xs s (code / 2) (eqb (code % 2) 1)) (dark s code)
 
--- "2 | array length is not the part's"
-abbrev pub fitsPart : ℕ → ℕ → Bool
-fitsPart part len = eqb len (figureOf part .size)
-
--- "An event checks 4, 2, 5, 6, 7." The first three; 0 where none is given.
+-- "An event checks 4, 2, 5, 6, 7." The first three: 4 "state fails the soundness test", 2, 5 "event code 12 or more".
+-- 0 where none is given.
 unfoldable pub checks : State → ℕ → ℕ → ℕ
 checks s len code =
     cond (not (sound s)) 4

@@ -6,8 +6,8 @@ use mathlib.Core.List.{List}
 use lib.ListN.{length}
 use lib.Dec.{eqb, leb}
 use borrow.Author.Tests.{eqb-false, leb-false}
-use Rattle.parts.specs.Figures.{figureOf}
-use Rattle.chip.specs.Event.{checks, event, step, refused, fitsPart}
+use Rattle.parts.specs.Figures.{figureOf, fitsPart}
+use Rattle.chip.specs.Event.{checks, event, step, refused}
 use Rattle.lines.specs.Sound.{sound}
 use Rattle.lines.specs.declared.state.State.{State}
 

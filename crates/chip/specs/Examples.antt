@@ -1,6 +1,6 @@
 -- Document 01's starred examples, computed from the definitions that the event call's promise cites: one list, one
 -- proof. Assumes nothing.
-use Prim.Native.Nat.{ℕ, _+_, _*_, _/_, _%_, _^_}
+use Prim.Native.Nat.{ℕ, _*_, _/_, _%_}
 use mathlib.Core.Bool.{Bool, true, false, cond, _&&_}
 use mathlib.Core.List.{List, [], _∷_, _++_}
 use lib.ListN.{set, take, replicate}
@@ -10,31 +10,22 @@ use Rattle.parts.specs.Commands.{command}
 use Rattle.parts.specs.Guards.{firstProtected, mayStore, mayKeep}
 use Rattle.stages.specs.Address.{afterCode, afterAddress, nextAddress}
 use Rattle.stages.specs.Bits.{takeBit, bitOf}
-use Rattle.stages.specs.Close.{isClosed, drops}
-use Rattle.select.specs.Fall.{shows, afterByte, fall, stageLevel}
+use Rattle.select.specs.Fall.{shows, afterByte, fall}
 use Rattle.select.specs.Notes.{NoteNumbers, levelNumber, noteNumbers}
 use Rattle.select.specs.Rise.{opened, codeRise, upperRise, lowerRise, writeRise, keepRise, rise}
 use Rattle.stages.specs.Sound.{soundShift, soundStage}
-use Rattle.lines.specs.Edges.{csFall, csRise, sckRise, sckFall, holdFall, holdRise, cut}
+use Rattle.lines.specs.Edges.{csFall, csRise, sckRise, sckFall, holdFall, holdRise}
 use Rattle.chip.specs.Event.{csStayed, live, step, checks, event, written}
-use Rattle.lines.specs.Lines.{atRest, csLevel, soLevel}
-use Rattle.lines.specs.Sound.{isOff, rests, sound}
+use Rattle.lines.specs.Lines.{atRest, soLevel}
+use Rattle.lines.specs.Sound.{rests, sound}
+use Rattle.stages.specs.Clocked.{clocked}
 use Rattle.lines.specs.Watch.{isOpen, seesRise}
 use Rattle.chip.specs.declared.event.Answer.{Answer}
 use Rattle.lines.specs.declared.state.State.{State}
 
--- "a data byte .. clocked in as eight times SI, SCK up, SCK down"
-unfoldable pub clockBit : ℕ → ℕ → List ℕ
-clockBit byte k = (4 + byte / 2 ^ k % 2) ∷ 3 ∷ 2 ∷ []
-
-unfoldable pub clock : ℕ → List ℕ
-clock byte =
-    clockBit byte 7 ++ clockBit byte 6 ++ clockBit byte 5 ++ clockBit byte 4
-    ++ clockBit byte 3 ++ clockBit byte 2 ++ clockBit byte 1 ++ clockBit byte 0
-
 unfoldable pub clockAll : List ℕ → List ℕ
 clockAll [] = []
-clockAll (byte ∷ bytes) = clock byte ++ clockAll bytes
+clockAll (byte ∷ bytes) = clocked byte ++ clockAll bytes
 
 -- "each transfer is one select"
 unfoldable pub transfer : List ℕ → List ℕ
@@ -42,7 +33,7 @@ transfer bytes = 0 ∷ clockAll bytes ++ (1 ∷ [])
 
 -- the first n clocks of a byte
 unfoldable pub clocks : ℕ → ℕ → List ℕ
-clocks n byte = take (3 * n) (clock byte)
+clocks n byte = take (3 * n) (clocked byte)
 
 unfoldable pub wren : List ℕ
 wren = transfer (0x06 ∷ [])
@@ -281,5 +272,5 @@ starred =
     ∷ []
 
 examples : T (all starred)
-unfolding clockBit clock clockAll transfer clocks wren noted answered run same driven bits bitsOf stored fresh ends holds all latchOn latchOff starred figureOf command firstProtected mayStore mayKeep afterCode afterAddress nextAddress takeBit bitOf shows afterByte fall opened codeRise upperRise lowerRise writeRise keepRise rise soundShift soundStage csFall csRise sckRise sckFall holdFall holdRise cut csStayed live step checks event written rests sound isOpen seesRise
+unfolding clocked clockAll transfer clocks wren noted answered run same driven bits bitsOf stored fresh ends holds all latchOn latchOff starred figureOf command firstProtected mayStore mayKeep afterCode afterAddress nextAddress takeBit bitOf shows afterByte fall opened codeRise upperRise lowerRise writeRise keepRise rise soundShift soundStage csFall csRise sckRise sckFall holdFall holdRise csStayed live step checks event written rests sound isOpen seesRise
 examples = tt

@@ -2,6 +2,7 @@ pub mod Event
 pub mod Answers
 pub mod Power
 pub mod EventLaws
+pub mod RefusalLaws
 pub mod PowerLaws
 pub mod SoundLaws
 pub mod WatchLaws

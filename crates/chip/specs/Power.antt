@@ -4,10 +4,8 @@ use mathlib.Core.Bool.{true, false, cond, not}
 use mathlib.Core.List.{List}
 use lib.ListN.{length, replicate}
 use lib.Dec.{eqb}
-use Rattle.parts.specs.Figures.{isPart}
+use Rattle.parts.specs.Figures.{isPart, inMask, fitsPart}
 use Rattle.lines.specs.Lines.{atRest}
-use Rattle.chip.specs.Event.{fitsPart}
-use Rattle.lines.specs.Sound.{inMask}
 use Rattle.chip.specs.declared.power.Powered.{Powered}
 
 -- "Filling a fresh array with 00 checks 1, 2."

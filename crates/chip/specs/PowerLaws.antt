@@ -1,40 +1,70 @@
--- What an accepted power-up says of its numbers: both pass their tests, and so both fit a byte. Assumes nothing.
+-- What an accepted power-up says: its numbers pass their tests, and so both fit a byte; it gives the power-up state.
+-- Assumes nothing.
 use Prim.Native.Nat.{ℕ, _<_}
 use mathlib.Core.Path.{_≡_, refl}
 use mathlib.Core.Bool.{Bool, true, false, cond, not}
-use native.Mathlib.Nat.{lt-of-le-of-lt}
-use borrow.Author.Tests.{eqb-false, eqb-true, ltb-true}
+use mathlib.Core.List.{List}
+use native.Mathlib.Nat.{lt-of-le-of-lt, lt-trans}
+use borrow.Author.Tests.{eqb-false, eqb-true, eq-eqb}
 use lib.Bits.{bitAnd, and-le-r}
-use lib.Dec.{eqb, ltb}
-use Rattle.parts.specs.Figures.{figureOf, isPart}
-use Rattle.parts.specs.FigureLaws.{fair}
-use Rattle.parts.specs.TestLaws.{right}
-use Rattle.chip.specs.Event.{fitsPart}
-use Rattle.chip.specs.Power.{fillRefusal, powerRefusal}
-use Rattle.lines.specs.Sound.{inMask}
+use lib.Dec.{eqb, lit<}
+use lib.ListN.{length}
+use Rattle.parts.specs.Figures.{figureOf, isPart, inMask, fitsPart}
+use Rattle.parts.specs.FigureLaws.{fair, below-count}
+use Rattle.chip.specs.Power.{fillRefusal, powerRefusal, powerUp}
+use Rattle.chip.specs.declared.power.Powered.{Powered}
+use Rattle.lines.specs.Lines.{atRest}
 
-first-passed : (a b : Bool) → _≡_ {A = ℕ} (cond (not a) 1 (cond (not b) 2 0)) 0 → a ≡ true
-first-passed false b h = absurd (eqb-false 1 0 refl h)
-first-passed true b h = refl
+both-passed : (a b : Bool) → _≡_ {A = ℕ} (cond (not a) 1 (cond (not b) 2 0)) 0 → (a ≡ true) × (b ≡ true)
+both-passed false b h = absurd (eqb-false 1 0 refl h)
+both-passed true false h = absurd (eqb-false 2 0 refl h)
+both-passed true true h = (refl, refl)
 
-last-passed :
+all-passed :
     (t d : Bool) (n : ℕ) → eqb n 0 ≡ t → _≡_ {A = ℕ} (cond t (cond d 0 3) n) 0 → (n ≡ 0) × (d ≡ true)
-last-passed true true n e h = (eqb-true n 0 e, refl)
-last-passed true false n e h = absurd (eqb-false 3 0 refl h)
-last-passed false d n e h = absurd (eqb-false n 0 e h)
+all-passed true true n e h = (eqb-true n 0 e, refl)
+all-passed true false n e h = absurd (eqb-false 3 0 refl h)
+all-passed false d n e h = absurd (eqb-false n 0 e h)
 
 module _ (part kept len : ℕ) (fine : powerRefusal part kept len ≡ 0) where
-  pub power-passed : (isPart part ≡ true) × (inMask part kept ≡ true)
-  unfolding fillRefusal powerRefusal
-  power-passed =
-      let p = last-passed (eqb (fillRefusal part len) 0) (inMask part kept) (fillRefusal part len) refl fine in
-      (first-passed (isPart part) (fitsPart part len) (p .0), p .1)
+  pub fill-and-mask : (fillRefusal part len ≡ 0) × (inMask part kept ≡ true)
+  unfolding powerRefusal
+  fill-and-mask = all-passed (eqb (fillRefusal part len) 0) (inMask part kept) (fillRefusal part len) refl fine
 
-  pub power-part : part < 4
-  power-part = ltb-true part 4 (right (ltb 0 part) (ltb part 4) (power-passed .0))
+  pub part-and-size : (isPart part ≡ true) × (fitsPart part len ≡ true)
+  unfolding fillRefusal
+  part-and-size = both-passed (isPart part) (fitsPart part len) (fill-and-mask .0)
+
+  pub power-part : part < 256
+  power-part = lt-trans (below-count part (part-and-size .0)) (lit< tt)
 
   pub power-kept : kept < 256
   power-kept =
       lt-of-le-of-lt
-      (rw (eqb-true (bitAnd kept (figureOf part .kept)) kept (power-passed .1)) at (and-le-r kept (figureOf part .kept)))
-      (fair part (power-passed .0) .mask)
+      (rw (eqb-true (bitAnd kept (figureOf part .kept)) kept (fill-and-mask .1)) at (and-le-r kept (figureOf part .kept)))
+      (fair part (part-and-size .0) .mask)
+
+-- an accepted power-up: no refusal, all three tests passed, the power-up state
+module _ (part kept : ℕ) (xs : List ℕ) (accepted : powerUp part kept xs .refusal ≡ 0) where
+  fine : powerRefusal part kept (length xs) ≡ 0
+  unfolding powerUp
+  fine = go (eqb (powerRefusal part kept (length xs)) 0) refl accepted
+    where
+      go : (t : Bool) → eqb (powerRefusal part kept (length xs)) 0 ≡ t
+          → cond {A = Powered} t (record { refusal = 0; state = atRest part kept true }) (record { refusal = powerRefusal part kept (length xs); state = atRest 1 0 false }) .refusal ≡ 0
+          → powerRefusal part kept (length xs) ≡ 0
+      go true e h = eqb-true _ _ e
+      go false e h = h
+
+  pub power-one : isPart part ≡ true
+  power-one = part-and-size part kept (length xs) fine .0
+
+  pub power-fits : length xs ≡ figureOf part .size
+  power-fits = eqb-true _ _ (part-and-size part kept (length xs) fine .1)
+
+  pub power-masked : inMask part kept ≡ true
+  power-masked = fill-and-mask part kept (length xs) fine .1
+
+  pub power-state : powerUp part kept xs .state ≡ atRest part kept true
+  unfolding powerUp
+  power-state = rw (eq-eqb _ _ fine)

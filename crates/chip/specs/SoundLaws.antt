@@ -9,12 +9,12 @@ use lib.ListN.{length}
 use lib.Dec.{eqb}
 use Rattle.parts.specs.Figures.{figureOf}
 use Rattle.parts.specs.TestLaws.{choose}
-use Rattle.lines.specs.Edges.{holdFall, holdRise, cut}
+use Rattle.lines.specs.Edges.{holdFall, holdRise}
 use Rattle.chip.specs.Event.{csTo, sckTo, holdTo, csStayed, vddTo, live, dark, step, checks, event}
-use Rattle.lines.specs.Lines.{atRest, csLevel}
+use Rattle.lines.specs.Lines.{atRest, csLevel, holdHigh}
 use Rattle.chip.specs.Power.{powerRefusal, powerUp}
-use Rattle.chip.specs.PowerLaws.{power-passed}
-use Rattle.lines.specs.Sound.{isOff, sound}
+use Rattle.chip.specs.PowerLaws.{part-and-size, fill-and-mask}
+use Rattle.lines.specs.Sound.{sound}
 use Rattle.lines.specs.declared.state.State.{State}
 use Rattle.chip.specs.declared.event.Answer.{Answer}
 use Rattle.chip.specs.declared.power.Powered.{Powered}
@@ -35,13 +35,12 @@ module _ (s : State) (h : sound s ≡ true) (on : s .power ≡ true) where
   hold-to : (level : Bool) → Answers (holdTo s level)
   unfolding holdFall holdRise
   hold-to true =
-      choose Answers (isOff (s .hold)) h
+      choose Answers (holdHigh (s .hold)) h
       (choose Answers (s .sck) h (choose Answers (csStayed s) (kept-on s h on _ refl refl refl refl) h))
   hold-to false =
-      choose Answers (isOff (s .hold)) (choose Answers (s .sck) h (kept-on s h on _ refl refl refl refl)) h
+      choose Answers (holdHigh (s .hold)) (choose Answers (s .sck) h (kept-on s h on _ refl refl refl refl)) h
 
   vdd-to : (level : Bool) → Keeps (vddTo s level)
-  unfolding cut
   vdd-to true = h
   vdd-to false = rest-sound (s .part) (s .kept) false (good s h .part) (good s h .kept)
 
@@ -58,7 +57,7 @@ module _ (s : State) (h : sound s ≡ true) (on : s .power ≡ true) where
 module _ (s : State) (h : sound s ≡ true) where
   dark-sound : (code : ℕ) → Answers (dark s code)
   dark-sound code =
-      choose Sound (eqb code 11) (rest-sound (s .part) (s .kept) true (good s h .part) (good s h .kept)) h
+      choose Keeps (eqb code 11) (rest-sound (s .part) (s .kept) true (good s h .part) (good s h .kept)) h
 
   pub step-sound : (xs : List ℕ) (code : ℕ) → Answers (step (figureOf (s .part)) xs s code)
   unfolding step
@@ -85,6 +84,6 @@ power-sound part kept xs = go (eqb (powerRefusal part kept (length xs)) 0) refl
     go : (t : Bool) → eqb (powerRefusal part kept (length xs)) 0 ≡ t
         → sound (cond {A = Powered} t (record { refusal = 0; state = atRest part kept true }) (record { refusal = powerRefusal part kept (length xs); state = atRest 1 0 false }) .state) ≡ true
     go true e =
-        let p = power-passed part kept (length xs) (eqb-true (powerRefusal part kept (length xs)) 0 e) in
-        rest-sound part kept true (p .0) (p .1)
+        let none = eqb-true (powerRefusal part kept (length xs)) 0 e in
+        rest-sound part kept true (part-and-size part kept (length xs) none .0) (fill-and-mask part kept (length xs) none .1)
     go false e = off-sound

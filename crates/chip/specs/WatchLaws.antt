@@ -8,9 +8,9 @@ use lib.Dec.{eqb}
 use Rattle.parts.specs.TestLaws.{left, right}
 use Rattle.parts.specs.declared.figures.Figure.{Figure}
 use Rattle.select.specs.Rise.{rise}
-use Rattle.lines.specs.Edges.{still, withSck, seenBy, rose, sckRise}
+use Rattle.lines.specs.Edges.{silent, withSck, seenBy, rose, sckRise}
 use Rattle.chip.specs.Event.{accepted, live, dark, step}
-use Rattle.lines.specs.Sound.{isOff}
+use Rattle.lines.specs.Lines.{holdHigh}
 use Rattle.lines.specs.Watch.{isOpen, seesRise}
 use Rattle.lines.specs.declared.state.State.{State}
 
@@ -20,11 +20,11 @@ module _ (f : Figure) (xs : List ℕ) (s : State) where
   rise-seen code h =
       ap (step f xs s) three
       ∙ ap (λ (p : Bool). cond p (live f xs s 1 true) (dark s 3)) on
-      ∙ ap (λ (k : Bool). accepted (cond k (still s) (sckRise f s))) low
-      ∙ ap (λ (k : Bool). accepted (cond k (rose s (rise f (seenBy s) (s .stage))) (still (withSck s true)))) off
+      ∙ ap (λ (k : Bool). accepted (cond k (silent s) (sckRise f s))) low
+      ∙ ap (λ (k : Bool). accepted (cond k (rose s (rise f (seenBy s) (s .stage))) (silent (withSck s true)))) off
     where
       a : Bool
-      a = s .power && isOff (s .hold)
+      a = s .power && holdHigh (s .hold)
 
       three : code ≡ 3
       three = eqb-true code 3 (right (a && isOpen s && not (s .sck)) (eqb code 3) h)
@@ -36,7 +36,7 @@ module _ (f : Figure) (xs : List ℕ) (s : State) where
       both = left a (isOpen s) (left (a && isOpen s) (not (s .sck)) (left (a && isOpen s && not (s .sck)) (eqb code 3) h))
 
       on : s .power ≡ true
-      on = left (s .power) (isOff (s .hold)) both
+      on = left (s .power) (holdHigh (s .hold)) both
 
-      off : isOff (s .hold) ≡ true
-      off = right (s .power) (isOff (s .hold)) both
+      off : holdHigh (s .hold) ≡ true
+      off = right (s .power) (holdHigh (s .hold)) both

@@ -1,8 +1,8 @@
 // One event.
 ghost use mathlib.Core.Path.{_≡_};
-ghost use Rattle.chip.specs.Event.{accepted, refused, csTo, sckTo, siTo, csStayed, holdTo, wpTo, vddTo, live, dark, step, checks, event, written};
+ghost use Rattle.chip.specs.Event.{accepted, refused, csTo, sckTo, csStayed, holdTo, vddTo, live, dark, step, checks, event, written};
 ghost use Rattle.chip.specs.Answers.{paper};
-use lines::sound::is_off;
+use lines::hold::hold_high;
 use lines::sound::sound;
 use lines::state::Moved;
 use lines::state::State;
@@ -45,15 +45,15 @@ fn refuse(refusal: u8, state: State) -> Answer
     }
 }
 
-// Each pin set to a level. A level that the pin has changes nothing.
+// Each pin set to a level. "Setting a pin to the level it has is accepted and has no effect."
 fn cs_to(state: State, level: bool) -> Moved
     ensures { λ r. ⌜ r ≡ csTo state level ⌝ }
 {
     let cs = state.cs();
     if level {
-        if cs { state.still() } else { state.cs_rise() }
+        if cs { state.silent() } else { state.cs_rise() }
     } else {
-        if cs { state.cs_fall() } else { state.still() }
+        if cs { state.cs_fall() } else { state.silent() }
     }
 }
 
@@ -62,7 +62,7 @@ fn sck_to(state: State, f: Figure, array: &[u8], level: bool) -> Moved
 {
     if level {
         if state.sck {
-            state.still()
+            state.silent()
         } else {
             state.sck_rise(f)
         }
@@ -70,16 +70,9 @@ fn sck_to(state: State, f: Figure, array: &[u8], level: bool) -> Moved
         if state.sck {
             state.sck_fall(f, array)
         } else {
-            state.still()
+            state.silent()
         }
     }
-}
-
-fn si_to(state: State, level: bool) -> Moved
-    ensures { λ r. ⌜ r ≡ siTo state level ⌝ }
-{
-    let next = State { si: level, ..state };
-    next.still()
 }
 
 // Whether /CS has the level that it had when /HOLD fell.
@@ -95,10 +88,10 @@ fn hold_to(state: State, level: bool) -> Answer
     ensures { λ r. ⌜ r ≡ holdTo state level ⌝ }
 {
     let hold = state.hold;
-    let off = is_off(hold);
+    let off = hold_high(hold);
     if level {
         if off {
-            return accept(state.still());
+            return accept(state.silent());
         }
         if state.sck {
             return refuse(6, state);
@@ -114,20 +107,17 @@ fn hold_to(state: State, level: bool) -> Answer
         }
         return accept(state.hold_fall());
     }
-    accept(state.still())
-}
-
-fn wp_to(state: State, level: bool) -> Moved
-    ensures { λ r. ⌜ r ≡ wpTo state level ⌝ }
-{
-    let next = State { wp: level, ..state };
-    next.still()
+    accept(state.silent())
 }
 
 fn vdd_to(state: State, level: bool) -> Moved
     ensures { λ r. ⌜ r ≡ vddTo state level ⌝ }
 {
-    if level { state.still() } else { state.cut() }
+    if level {
+        state.silent()
+    } else {
+        state.vdd_fall()
+    }
 }
 
 // An event with power on: the pin, and the level that it is set to.
@@ -137,9 +127,9 @@ fn live(f: Figure, state: State, array: &[u8], pin: u8, level: bool) -> Answer
     match pin {
         0 => accept(cs_to(state, level)),
         1 => accept(sck_to(state, f, array, level)),
-        2 => accept(si_to(state, level)),
+        2 => accept(state.si_to(level)),
         3 => hold_to(state, level),
-        4 => accept(wp_to(state, level)),
+        4 => accept(state.wp_to(level)),
         _ => accept(vdd_to(state, level)),
     }
 }
@@ -149,13 +139,13 @@ fn dark(state: State, code: u8) -> Answer
     ensures { λ r. ⌜ r ≡ dark state code ⌝ }
 {
     if code == 11 {
-        return accept(State::at_rest(state.part, state.kept, true).still());
+        return accept(state.vdd_rise());
     }
-    accept(state.still())
+    accept(state.silent())
 }
 
-// An event on a sound state, of the code of a pin and a level.
-pub fn step(f: Figure, state: State, array: &[u8], code: u8) -> Answer
+// An event that passed the checks 4, 2 and 5.
+fn step(f: Figure, state: State, array: &[u8], code: u8) -> Answer
     ensures { λ r. ⌜ r ≡ step f (now (array .entry)) state code ⌝ }
 {
     if state.power {

@@ -38,6 +38,7 @@ fn power_refusal(part: u64, kept: u64, len: usize) -> u8
     0
 }
 
+// Power-up of a part with its kept bits, over the array that is lent to it.
 pub fn power_up(part: u64, kept: u64, array: &[u8]) -> Powered
     ensures { λ r. ⌜ r ≡ powerUp part kept (now (array .entry)) ⌝ }
 {

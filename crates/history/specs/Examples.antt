@@ -7,7 +7,8 @@ use lib.Dec.{T, eqb}
 use Rattle.parts.specs.Figures.{figureOf}
 use Rattle.parts.specs.Commands.{command}
 use Rattle.parts.specs.Guards.{firstProtected, mayStore, mayKeep}
-use Rattle.chip.specs.Examples.{Example, clockBit, clock, clockAll, transfer, clocks, wren, same, stored, fresh, latchOn, latchOff, starred}
+use Rattle.stages.specs.Clocked.{clocked}
+use Rattle.chip.specs.Examples.{Example, clockAll, transfer, clocks, wren, same, stored, fresh, latchOn, latchOff, starred}
 use Rattle.history.specs.Lines.{put, refused, after, act, acts}
 use Rattle.history.specs.Transfers.{opened, spans}
 use Rattle.history.specs.Bytes.{value, eights, bytes, topBit, number, address, readAs, reading}
@@ -42,6 +43,6 @@ more =
     ∷ plain (wren ++ transfer (0x02 ∷ 0x00 ∷ 0x55 ∷ []) ++ wren ++ transfer (0x01 ∷ 0x0C ∷ [])) (0x000 ∷ 0x55 ∷ []) 0x0C
     ∷ []
 
-pub examples : T (toldAll (starred ++ more))
-unfolding clockBit clock clockAll transfer clocks wren same stored fresh latchOn latchOff starred leaves told toldAll plain more history inOrder spanned drops atLeastOne effect keepFirst keepIf overlay storeIf reading readAs address number topBit bytes eights value opened spans acts act after refused put figureOf command firstProtected mayStore mayKeep
+pub examples : T (toldAll (more ++ starred))
+unfolding clocked clockAll transfer clocks wren same stored fresh latchOn latchOff starred leaves told toldAll plain more history inOrder spanned drops atLeastOne effect keepFirst keepIf overlay storeIf reading readAs address number topBit bytes eights value opened spans acts act after refused put figureOf command firstProtected mayStore mayKeep
 examples = tt

@@ -12,7 +12,7 @@ use Rattle.parts.specs.declared.figures.Figure.{Figure}
 use Rattle.parts.specs.declared.guards.Verdict.{Verdict}
 use Rattle.parts.specs.declared.guards.Verdict.the-variants.{Allowed, HeldBack}
 use Rattle.history.specs.Lines.{rest, acts}
-use Rattle.history.specs.Transfers.{Span, transfer, dark, spans}
+use Rattle.history.specs.Transfers.{Span, transfer, cut, spans}
 use Rattle.history.specs.Bytes.{Byte, bytes, Reading, latches, stores, keeps, idles, reading}
 
 -- what the history speaks of
@@ -72,7 +72,7 @@ transferred f w r closed = cond (closed && drops r) (withLatch (effect f w r) fa
 -- "cut the supply": "The latch is off"
 unfoldable pub spanned : Figure → World → Span → World
 spanned f w (transfer t) = transferred f w (reading f (bytes (t .bits))) (t .closed)
-spanned f w dark = withLatch w false
+spanned f w cut = withLatch w false
 
 unfoldable pub inOrder : Figure → World → List Span → World
 inOrder f w [] = w

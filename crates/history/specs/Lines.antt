@@ -5,7 +5,7 @@ use mathlib.Core.Bool.{Bool, true, false, cond, not, _&&_, _||_}
 use mathlib.Core.List.{List, [], _∷_}
 use lib.Dec.{eqb, leb}
 
--- the levels of the lines, and of /CS as the select sees it
+-- the levels of the lines, and of /CS as it was last seen: low exactly where a select is open
 pub record Lines : Type 0 where
   pub power : Bool
   pub cs : Bool
@@ -52,8 +52,8 @@ csMoved l = cond (l .seen) (not (l .cs)) (l .cs)
 unfoldable pub refused : Lines → ℕ → Bool
 refused l code =
     leb 12 code
-    || l .power && (holdFalls l code || holdRises l code) && l .sck
-    || l .power && holdRises l code && csMoved l
+    || (l .power && (holdFalls l code || holdRises l code) && l .sck)
+    || (l .power && holdRises l code && csMoved l)
 
 -- "refused events count as never sent". "With power off, each event but 11 is accepted and has no effect." Event 10 with
 -- power on gives the off state, "all else is as at power-up"; "Event 11 then gives the power-up state".
@@ -69,7 +69,7 @@ pub record Bit : Type 0 where
   pub si : Bool
   pub wp : Bool
 
--- what an event is to the select
+-- what an event is to the select. With /HOLD high what is seen of /CS is its level, so a select is open where /CS is low.
 pub data Act : Type 0 where
   opens : Act
   closes : Act

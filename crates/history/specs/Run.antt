@@ -5,6 +5,7 @@ use mathlib.Core.Bool.{true}
 use mathlib.Core.List.{List, [], _∷_}
 use Rattle.lines.specs.Lines.{atRest}
 use Rattle.chip.specs.Event.{event, written}
+use Rattle.chip.specs.Power.{powerUp}
 use Rattle.lines.specs.declared.state.State.{State}
 use Rattle.chip.specs.declared.event.Answer.{Answer}
 use Rattle.history.specs.History.{World}
@@ -17,9 +18,13 @@ pub record Chip : Type 0 where
 abbrev pub answered : Chip → Answer → Chip
 answered c a = record { state = a .state; array = written (a .note) (c .array) }
 
--- at power-up: "An accepted power-up call gives that state too."
+-- the power-up state, over an array
 abbrev pub poweredUp : ℕ → ℕ → List ℕ → Chip
 poweredUp part kept array = record { state = atRest part kept true; array = array }
+
+-- what the power-up call gives, over the array that was lent to it
+abbrev pub begun : ℕ → ℕ → List ℕ → Chip
+begun part kept array = record { state = powerUp part kept array .state; array = array }
 
 -- what of it the history speaks of
 abbrev pub worldOf : Chip → World

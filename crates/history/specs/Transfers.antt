@@ -20,12 +20,12 @@ opened (passes ∷ later) = opened later
 -- the transfers and the power cuts, in order
 pub data Span : Type 0 where
   transfer : Transfer → Span
-  dark : Span
+  cut : Span
 
 unfoldable pub spans : List Act → List Span
 spans [] = []
 spans (opens ∷ later) = transfer (opened later) ∷ spans later
 spans (closes ∷ later) = spans later
 spans (takes b ∷ later) = spans later
-spans (cuts ∷ later) = dark ∷ spans later
+spans (cuts ∷ later) = cut ∷ spans later
 spans (passes ∷ later) = spans later

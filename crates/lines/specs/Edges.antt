@@ -5,7 +5,7 @@ use mathlib.Core.Bool.{Bool, true, false, cond, _&&_}
 use mathlib.Core.List.{List}
 use Rattle.parts.specs.declared.figures.Figure.{Figure}
 use Rattle.stages.specs.Bits.{fresh}
-use Rattle.stages.specs.Close.{isClosed, drops}
+use Rattle.stages.specs.Close.{drops}
 use Rattle.select.specs.Fall.{fall, statusByte}
 use Rattle.select.specs.Rise.{rise}
 use Rattle.select.specs.declared.notes.Note.the-variants.{Nothing, Latch, PowerLost}
@@ -13,10 +13,9 @@ use Rattle.select.specs.declared.rise.Seen.{Seen}
 use Rattle.select.specs.declared.rise.Risen.{Risen}
 use Rattle.stages.specs.declared.stage.Stage.{Stage}
 use Rattle.stages.specs.declared.stage.Stage.the-variants.{Closed, Code}
-use Rattle.lines.specs.Lines.{atRest}
-use Rattle.lines.specs.Sound.{isOff}
-use Rattle.lines.specs.declared.state.Hold.{Hold}
-use Rattle.lines.specs.declared.state.Hold.the-variants.{Off, OnLow, OnHigh}
+use Rattle.lines.specs.Lines.{atRest, holdHigh, csLevel}
+use Rattle.lines.specs.declared.hold.Hold.{Hold}
+use Rattle.lines.specs.declared.hold.Hold.the-variants.{High, LowCsLow, LowCsHigh}
 use Rattle.lines.specs.declared.state.State.{State}
 use Rattle.lines.specs.declared.state.Moved.{Moved}
 
@@ -91,23 +90,23 @@ withStage s latch stage =
       stage = stage;
     }
 
--- "Setting a pin to the level it has is accepted and has no effect."
-abbrev pub still : State → Moved
-still s = record { state = s; note = Nothing }
+-- a state, with the note nothing
+abbrev pub silent : State → Moved
+silent s = record { state = s; note = Nothing }
 
--- "A seen fall of /CS opens a select"
+-- "A seen fall of /CS opens a select", "SCK may stand high or low at the fall (modes 0 and 3)."
 unfoldable pub csFall : State → Moved
-csFall s = still (cond (isOff (s .hold)) (withStage s (s .latch) (Code fresh)) (withHold s OnLow))
+csFall s = silent (cond (holdHigh (s .hold)) (withStage s (s .latch) (Code fresh)) (withHold s LowCsLow))
 
 -- "a seen rise closes it and releases SO". "The note then is latch 0 if the latch was set, else nothing."
 abbrev pub closed : State → Moved
 closed s =
     cond (s .latch && drops (s .stage))
     (record { state = withStage s false Closed; note = Latch false })
-    (still (withStage s (s .latch) Closed))
+    (silent (withStage s (s .latch) Closed))
 
 unfoldable pub csRise : State → Moved
-csRise s = cond (isOff (s .hold)) (closed s) (still (withHold s OnHigh))
+csRise s = cond (holdHigh (s .hold)) (closed s) (silent (withHold s LowCsHigh))
 
 -- "Each seen rise of SCK in an open select takes SI"
 abbrev pub seenBy : State → Seen
@@ -132,7 +131,7 @@ rose s r =
     }
 
 unfoldable pub sckRise : Figure → State → Moved
-sckRise f s = cond (isOff (s .hold)) (rose s (rise f (seenBy s) (s .stage))) (still (withSck s true))
+sckRise f s = cond (holdHigh (s .hold)) (rose s (rise f (seenBy s) (s .stage))) (silent (withSck s true))
 
 -- "Output moves on a seen fall of SCK"
 abbrev pub shown : Figure → List ℕ → State → Stage
@@ -140,15 +139,28 @@ shown f xs s = fall f xs (statusByte (s .kept) (s .latch)) (s .stage)
 
 unfoldable pub sckFall : Figure → List ℕ → State → Moved
 sckFall f xs s =
-    still (cond (isOff (s .hold)) (withStage (withSck s false) (s .latch) (shown f xs s)) (withSck s false))
+    silent (cond (holdHigh (s .hold)) (withStage (withSck s false) (s .latch) (shown f xs s)) (withSck s false))
 
--- /HOLD falls: /CS has the level that shows whether a select is open
+-- "only their levels kept"
 unfoldable pub holdFall : State → Moved
-holdFall s = still (withHold s (cond (isClosed (s .stage)) OnHigh OnLow))
+holdFall s = silent (withHold s (cond (csLevel s) LowCsHigh LowCsLow))
 
+-- moves are seen again
 unfoldable pub holdRise : State → Moved
-holdRise s = still (withHold s Off)
+holdRise s = silent (withHold s High)
+
+-- SI and /WP have a level and no more: one rule for both edges. "Its level is followed at all times with power on,
+-- during hold too."
+abbrev pub siTo : State → Bool → Moved
+siTo s level = silent (withSi s level)
+
+abbrev pub wpTo : State → Bool → Moved
+wpTo s level = silent (withWp s level)
 
 -- "Event 10 with power on gives the note power lost and the off state"
-unfoldable pub cut : State → Moved
-cut s = record { state = atRest (s .part) (s .kept) false; note = PowerLost }
+abbrev pub vddFall : State → Moved
+vddFall s = record { state = atRest (s .part) (s .kept) false; note = PowerLost }
+
+-- "Event 11 then gives the power-up state, with the note nothing."
+abbrev pub vddRise : State → Moved
+vddRise s = silent (atRest (s .part) (s .kept) true)

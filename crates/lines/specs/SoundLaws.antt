@@ -2,19 +2,23 @@
 -- soundness as it is; the clocks keep it by the laws of a select. Assumes nothing.
 use Prim.Native.Nat.{ℕ}
 use mathlib.Core.Path.{_≡_, refl, _∙_}
-use mathlib.Core.Bool.{Bool, true, false, _&&_, _||_}
+use mathlib.Core.Bool.{Bool, true, false, not, _&&_, _||_}
 use mathlib.Core.List.{List}
 use borrow.Author.Tests.{eqb-true, eq-eqb}
 use Rattle.parts.specs.FigureLaws.{fair}
-use Rattle.parts.specs.Figures.{figureOf, isPart}
+use Rattle.parts.specs.Figures.{figureOf, isPart, inMask}
 use Rattle.parts.specs.TestLaws.{both, left, right, choose}
 use Rattle.stages.specs.Close.{isClosed, drops}
 use Rattle.select.specs.Fall.{statusByte}
 use Rattle.stages.specs.Sound.{soundStage, soundShift}
 use Rattle.select.specs.SoundLaws.{rise-sound, rise-masked, fall-sound}
 use Rattle.lines.specs.Edges.{seenBy, csFall, csRise, sckRise, sckFall}
-use Rattle.lines.specs.Lines.{atRest}
-use Rattle.lines.specs.Sound.{isOff, rests, inMask, sound}
+use Rattle.lines.specs.Lines.{atRest, holdHigh}
+use Rattle.lines.specs.Sound.{rests, sound}
+use Rattle.stages.specs.declared.stage.Stage.{Stage}
+use Rattle.stages.specs.declared.stage.Stage.the-variants.{Closed, Code, Upper, Lower, Ready, Showing, Writing, Keeping, Over}
+use Rattle.lines.specs.declared.hold.Hold.{Hold}
+use Rattle.lines.specs.declared.hold.Hold.the-variants.{High, LowCsLow, LowCsHigh}
 use Rattle.lines.specs.declared.state.State.{State}
 use Rattle.lines.specs.declared.state.Moved.{Moved}
 
@@ -52,6 +56,40 @@ unfolding sound rests soundStage
 rest-sound part kept true p k = both (both (both p k) refl) refl
 rest-sound part kept false p k = both (both (both p k) refl) refl
 
+closed-is : (stage : Stage) → isClosed stage ≡ true → stage ≡ Closed
+closed-is Closed h = refl
+closed-is (Code shift) h = cc
+closed-is (Upper upper) h = cc
+closed-is (Lower lower) h = cc
+closed-is (Ready source) h = cc
+closed-is (Showing shown) h = cc
+closed-is (Writing w) h = cc
+closed-is (Keeping shift) h = cc
+closed-is (Over whole) h = cc
+
+high-is : (hold : Hold) → holdHigh hold ≡ true → hold ≡ High
+high-is High h = refl
+high-is LowCsLow h = cc
+high-is LowCsHigh h = cc
+
+rest-of :
+    (part kept : ℕ) (power sck si wp latch : Bool) (hold : Hold) (stage : Stage)
+    → (not sck && not si && wp && not latch && holdHigh hold && isClosed stage) ≡ true
+    → _≡_ {A = State}
+    (record { part = part; kept = kept; power = power; sck = sck; si = si; wp = wp; latch = latch; hold = hold; stage = stage })
+    (atRest part kept power)
+rest-of part kept power false false true false hold stage h =
+    rw (high-is hold (left (holdHigh hold) (isClosed stage) h), closed-is stage (right (holdHigh hold) (isClosed stage) h))
+rest-of part kept power false false true true hold stage h = cc
+rest-of part kept power false false false latch hold stage h = cc
+rest-of part kept power false true wp latch hold stage h = cc
+rest-of part kept power true si wp latch hold stage h = cc
+
+-- "power off in another form than the off state": what rests has the form of the off state in every field
+pub rests-is : (s : State) → rests s ≡ true → s ≡ atRest (s .part) (s .kept) (s .power)
+unfolding rests
+rests-is s h = rest-of (s .part) (s .kept) (s .power) (s .sck) (s .si) (s .wp) (s .latch) (s .hold) (s .stage) h
+
 abbrev pub Sound : State → Type 0
 Sound s = sound s ≡ true
 
@@ -75,19 +113,19 @@ module _ (s : State) (h : sound s ≡ true) (on : s .power ≡ true) where
 
   pub cs-fall : Keeps (csFall s)
   unfolding csFall soundStage soundShift
-  cs-fall = choose Sound (isOff (s .hold)) (staged _ refl refl refl refl) (kept-on _ refl refl refl refl)
+  cs-fall = choose Sound (holdHigh (s .hold)) (staged _ refl refl refl refl) (kept-on _ refl refl refl refl)
 
   pub cs-rise : Keeps (csRise s)
   unfolding csRise soundStage
   cs-rise =
-      choose Keeps (isOff (s .hold))
+      choose Keeps (holdHigh (s .hold))
       (choose Keeps (s .latch && drops (s .stage)) (staged _ refl refl refl refl) (staged _ refl refl refl refl))
       (kept-on _ refl refl refl refl)
 
   pub sck-rise : Keeps (sckRise (figureOf (s .part)) s)
   unfolding sckRise
   sck-rise =
-      choose Keeps (isOff (s .hold))
+      choose Keeps (holdHigh (s .hold))
       (good-sound _ on
       (record {
         part = g .part;
@@ -99,6 +137,6 @@ module _ (s : State) (h : sound s ≡ true) (on : s .power ≡ true) where
   pub sck-fall : (xs : List ℕ) → Keeps (sckFall (figureOf (s .part)) xs s)
   unfolding sckFall
   sck-fall xs =
-      choose Sound (isOff (s .hold))
+      choose Sound (holdHigh (s .hold))
       (staged _ refl refl refl (fall-sound (figureOf (s .part)) (fair (s .part) (g .part)) xs (statusByte (s .kept) (s .latch)) (s .stage) (g .stage)))
       (kept-on _ refl refl refl refl)

@@ -3,7 +3,7 @@ use Prim.Native.Nat.{ℕ}
 use mathlib.Core.Bool.{Bool, not, _&&_}
 use lib.Dec.{eqb}
 use Rattle.stages.specs.Close.{isClosed}
-use Rattle.lines.specs.Sound.{isOff}
+use Rattle.lines.specs.Lines.{holdHigh}
 use Rattle.lines.specs.declared.state.State.{State}
 
 -- a select is open
@@ -12,4 +12,4 @@ isOpen s = not (isClosed (s .stage))
 
 -- "Each seen rise of SCK in an open select": event 3 with power on, /HOLD high and SCK low
 unfoldable pub seesRise : State → ℕ → Bool
-seesRise s code = s .power && isOff (s .hold) && isOpen s && not (s .sck) && eqb code 3
+seesRise s code = s .power && holdHigh (s .hold) && isOpen s && not (s .sck) && eqb code 3

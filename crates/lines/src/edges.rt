@@ -1,8 +1,8 @@
-// The pins' edges, each a method that hands back the next state. Each is called only where the pin moves.
+// The pins' edges, each a method that hands back the next state with the note.
 ghost use mathlib.Core.Path.{_≡_};
-ghost use Rattle.lines.specs.Edges.{still, csFall, csRise, sckRise, sckFall, holdFall, holdRise, cut};
-use crate::sound::is_off;
-use crate::state::Hold;
+ghost use Rattle.lines.specs.Edges.{silent, csFall, csRise, sckRise, sckFall, siTo, holdFall, holdRise, wpTo, vddFall, vddRise};
+use crate::hold::Hold;
+use crate::hold::hold_high;
 use crate::state::Moved;
 use crate::state::State;
 use parts::figures::Figure;
@@ -13,13 +13,12 @@ use select::rise::Seen;
 use select::rise::rise;
 use stages::bits::no_bits;
 use stages::close::drops;
-use stages::close::is_closed;
 use stages::stage::Stage;
 
 impl State {
-    // No effect.
-    pub fn still(self) -> Moved
-        ensures { λ r. ⌜ r ≡ still self ⌝ }
+    // This state, with the note nothing.
+    pub fn silent(self) -> Moved
+        ensures { λ r. ⌜ r ≡ silent self ⌝ }
     {
         Moved {
             state: self,
@@ -27,39 +26,33 @@ impl State {
         }
     }
 
+    // A select opens; in hold only the level moves.
     pub fn cs_fall(self) -> Moved
         ensures { λ r. ⌜ r ≡ csFall self ⌝ }
     {
         let hold = self.hold;
-        if is_off(hold) {
+        if hold_high(hold) {
             let state = State {
                 stage: Stage::Code(no_bits()),
                 ..self
             };
-            Moved {
-                state,
-                note: Note::Nothing,
-            }
-        } else {
-            let state = State {
-                hold: Hold::OnLow,
-                ..self
-            };
-            Moved {
-                state,
-                note: Note::Nothing,
-            }
+            return state.silent();
         }
+        let state = State {
+            hold: Hold::LowCsLow,
+            ..self
+        };
+        state.silent()
     }
 
+    // The select closes, and the latch may drop; in hold only the level moves.
     pub fn cs_rise(self) -> Moved
         ensures { λ r. ⌜ r ≡ csRise self ⌝ }
     {
         let hold = self.hold;
         let stage = self.stage;
-        if is_off(hold) {
-            let dropped = self.latch & drops(stage);
-            if dropped {
+        if hold_high(hold) {
+            if self.latch & drops(stage) {
                 let state = State {
                     latch: false,
                     stage: Stage::Closed,
@@ -74,28 +67,22 @@ impl State {
                 stage: Stage::Closed,
                 ..self
             };
-            Moved {
-                state,
-                note: Note::Nothing,
-            }
-        } else {
-            let state = State {
-                hold: Hold::OnHigh,
-                ..self
-            };
-            Moved {
-                state,
-                note: Note::Nothing,
-            }
+            return state.silent();
         }
+        let state = State {
+            hold: Hold::LowCsHigh,
+            ..self
+        };
+        state.silent()
     }
 
+    // A select takes a bit.
     pub fn sck_rise(self, f: Figure) -> Moved
         ensures { λ r. ⌜ r ≡ sckRise f self ⌝ }
     {
         let hold = self.hold;
         let stage = self.stage;
-        if is_off(hold) {
+        if hold_high(hold) {
             let seen = Seen {
                 latch: self.latch,
                 kept: self.kept,
@@ -112,22 +99,19 @@ impl State {
                 stage: next,
                 ..self
             };
-            Moved { state, note }
-        } else {
-            let state = State { sck: true, ..self };
-            Moved {
-                state,
-                note: Note::Nothing,
-            }
+            return Moved { state, note };
         }
+        let state = State { sck: true, ..self };
+        state.silent()
     }
 
+    // A select may show a bit.
     pub fn sck_fall(self, f: Figure, array: &[u8]) -> Moved
         ensures { λ r. ⌜ r ≡ sckFall f (now (array .entry)) self ⌝ }
     {
         let hold = self.hold;
         let stage = self.stage;
-        if is_off(hold) {
+        if hold_high(hold) {
             let status = status_byte(self.kept, self.latch);
             let next = fall(f, array, status, stage);
             let state = State {
@@ -135,55 +119,71 @@ impl State {
                 stage: next,
                 ..self
             };
-            Moved {
-                state,
-                note: Note::Nothing,
-            }
-        } else {
-            let state = State { sck: false, ..self };
-            Moved {
-                state,
-                note: Note::Nothing,
-            }
+            return state.silent();
         }
+        let state = State { sck: false, ..self };
+        state.silent()
     }
 
+    // SI has a level and no more: one method for both edges.
+    pub fn si_to(self, level: bool) -> Moved
+        ensures { λ r. ⌜ r ≡ siTo self level ⌝ }
+    {
+        let state = State { si: level, ..self };
+        state.silent()
+    }
+
+    // From here on moves of SCK and /CS are not seen.
     pub fn hold_fall(self) -> Moved
         ensures { λ r. ⌜ r ≡ holdFall self ⌝ }
     {
-        let stage = self.stage;
-        let hold = if is_closed(stage) {
-            Hold::OnHigh
-        } else {
-            Hold::OnLow
-        };
-        let state = State { hold, ..self };
-        Moved {
-            state,
-            note: Note::Nothing,
+        if self.cs() {
+            let state = State {
+                hold: Hold::LowCsHigh,
+                ..self
+            };
+            return state.silent();
         }
+        let state = State {
+            hold: Hold::LowCsLow,
+            ..self
+        };
+        state.silent()
     }
 
     pub fn hold_rise(self) -> Moved
         ensures { λ r. ⌜ r ≡ holdRise self ⌝ }
     {
         let state = State {
-            hold: Hold::Off,
+            hold: Hold::High,
             ..self
         };
-        Moved {
-            state,
-            note: Note::Nothing,
-        }
+        state.silent()
+    }
+
+    // /WP has a level and no more: one method for both edges.
+    pub fn wp_to(self, level: bool) -> Moved
+        ensures { λ r. ⌜ r ≡ wpTo self level ⌝ }
+    {
+        let state = State { wp: level, ..self };
+        state.silent()
     }
 
     // Power is cut.
-    pub fn cut(self) -> Moved
-        ensures { λ r. ⌜ r ≡ cut self ⌝ }
+    pub fn vdd_fall(self) -> Moved
+        ensures { λ r. ⌜ r ≡ vddFall self ⌝ }
     {
         Moved {
             state: State::at_rest(self.part, self.kept, false),
             note: Note::PowerLost,
         }
+    }
+
+    // Power returns.
+    pub fn vdd_rise(self) -> Moved
+        ensures { λ r. ⌜ r ≡ vddRise self ⌝ }
+    {
+        let state = State::at_rest(self.part, self.kept, true);
+        state.silent()
     }
 }

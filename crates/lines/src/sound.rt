@@ -1,23 +1,12 @@
 // The soundness test. docs/SOUNDNESS.md states its conditions on the state's fields.
 ghost use mathlib.Core.Path.{_≡_};
-ghost use Rattle.lines.specs.Sound.{isOff, rests, sound};
-use crate::state::Hold;
+ghost use Rattle.lines.specs.Sound.{rests, sound};
+use crate::hold::hold_high;
 use crate::state::State;
 use parts::figures::figure_of;
 use parts::figures::is_part;
 use stages::close::is_closed;
 use stages::sound::sound_stage;
-
-// Whether /HOLD is high.
-pub fn is_off(hold: Hold) -> bool
-    ensures { λ r. ⌜ r ≡ isOff hold ⌝ }
-{
-    match hold {
-        Hold::Off => true,
-        Hold::OnLow => false,
-        Hold::OnHigh => false,
-    }
-}
 
 // Whether every line and bit but the kept ones is as at power-up.
 fn rests(s: State) -> bool
@@ -25,9 +14,10 @@ fn rests(s: State) -> bool
 {
     let hold = s.hold;
     let stage = s.stage;
-    !s.sck & !s.si & s.wp & !s.latch & is_off(hold) & is_closed(stage)
+    !s.sck & !s.si & s.wp & !s.latch & hold_high(hold) & is_closed(stage)
 }
 
+// Whether the state is sound. Power off has one form, the off state.
 pub fn sound(s: State) -> bool
     ensures { λ r. ⌜ r ≡ sound s ⌝ }
 {

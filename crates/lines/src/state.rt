@@ -1,18 +1,12 @@
 // The chip's state. It goes in by value and comes back by value.
 ghost use mathlib.Core.Path.{_≡_};
 ghost use Rattle.lines.specs.Lines.{atRest, csLevel, soLevel};
+use crate::hold::Hold;
 use select::fall::stage_level;
 use select::notes::Level;
 use select::notes::Note;
 use stages::close::is_closed;
 use stages::stage::Stage;
-
-// /HOLD high, or low with /CS low or high, which is not seen then.
-pub enum Hold {
-    Off,
-    OnLow,
-    OnHigh,
-}
 
 // With /HOLD high the level of /CS is high exactly where no select is open, so it has no field of its own. What SO
 // shows is in the stage.
@@ -47,7 +41,7 @@ impl State {
             si: false,
             wp: true,
             latch: false,
-            hold: Hold::Off,
+            hold: Hold::High,
             stage: Stage::Closed,
         }
     }
@@ -59,9 +53,9 @@ impl State {
         let hold = self.hold;
         let stage = self.stage;
         match hold {
-            Hold::Off => is_closed(stage),
-            Hold::OnLow => false,
-            Hold::OnHigh => true,
+            Hold::High => is_closed(stage),
+            Hold::LowCsLow => false,
+            Hold::LowCsHigh => true,
         }
     }
 
@@ -72,9 +66,9 @@ impl State {
         let hold = self.hold;
         let stage = self.stage;
         match hold {
-            Hold::Off => stage_level(stage),
-            Hold::OnLow => Level::Released,
-            Hold::OnHigh => Level::Released,
+            Hold::High => stage_level(stage),
+            Hold::LowCsLow => Level::Released,
+            Hold::LowCsHigh => Level::Released,
         }
     }
 }

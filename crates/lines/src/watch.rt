@@ -1,7 +1,7 @@
 // What a bench sees of a state besides the answers: whether a select is open, and whether an event is a seen rise.
 ghost use mathlib.Core.Path.{_≡_};
 ghost use Rattle.lines.specs.Watch.{isOpen, seesRise};
-use crate::sound::is_off;
+use crate::hold::hold_high;
 use crate::state::State;
 use stages::close::is_closed;
 
@@ -18,5 +18,5 @@ pub fn sees_rise(s: State, code: u64) -> bool
     ensures { λ r. ⌜ r ≡ seesRise s code ⌝ }
 {
     let hold = s.hold;
-    s.power & is_off(hold) & is_open(s) & !s.sck & (code == 3)
+    s.power & hold_high(hold) & is_open(s) & !s.sck & (code == 3)
 }

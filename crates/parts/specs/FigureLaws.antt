@@ -1,13 +1,13 @@
 -- What every rule may rely on in a part's row, whichever part it is. A new row is checked here, once. Assumes nothing.
-use Prim.Native.Nat.{ℕ, zero, suc, _+_, _*_, _<_, _≤_, _-_, _^_}
-use mathlib.Core.Path.{_≡_, refl, sym, _∙_}
+use Prim.Native.Nat.{ℕ, zero, suc, _+_, _*_, _/_, _<_, _≤_, _-_, _^_}
+use mathlib.Core.Path.{_≡_, refl}
 use mathlib.Core.Bool.{Bool, true, false, _&&_}
 use mathlib.Core.List.{List, [], _∷_}
 use native.Mathlib.Omega.{arith}
-use borrow.Author.Tests.{lt-ltb, le-ltb, eqb-false, leb-true}
-use lib.Dec.{leb, lit<, lit≤}
-use lib.ListN.{getD}
-use Rattle.parts.specs.Figures.{none, parts, figureOf, isPart}
+use borrow.Author.Tests.{eqb-false, leb-true, ltb-true}
+use lib.Dec.{leb, ltb, lit<, lit≤}
+use lib.ListN.{getD, length}
+use Rattle.parts.specs.Figures.{none, fm25l04, fm25c160, rows, parts, figureOf, isPart}
 use Rattle.parts.specs.TestLaws.{left, right}
 use Rattle.parts.specs.declared.figures.Figure.{Figure}
 
@@ -15,6 +15,9 @@ use Rattle.parts.specs.declared.figures.Figure.{Figure}
 pub data Header (count top : ℕ) : Type 0 where
   one : (k : ℕ) → count ≡ 1 → top ≡ 2 ^ k → Header count top
   two : count ≡ 2 → top ≡ 0 → Header count top
+
+clash : false ≡ true → _≡_ {A = ℕ} 0 1
+clash h = cc
 
 pub record Fair (f : Figure) : Type 0 where
   -- the kept bits are bits of a byte
@@ -27,20 +30,39 @@ pub record Fair (f : Figure) : Type 0 where
   pub bits : ℕ
   pub low : f .upper ≡ 2 ^ bits - 1
   pub header : Header (f .«address_bytes») (f .codes .top)
+  -- "the upper quarter", "the upper half"
+  pub quarter : f .quarter ≡ f .size - f .size / 4
+  pub half : f .half ≡ f .size - f .size / 2
 
-clash : false ≡ true → _≡_ {A = ℕ} 0 1
-clash h = cc
+pub data AllFair : List Figure → Type 0 where
+  done : AllFair []
+  also : {f : Figure} {fs : List Figure} → Fair f → AllFair fs → AllFair (f ∷ fs)
 
-beyond : (part : ℕ) → isPart (suc (suc (suc (suc part)))) ≡ false
-beyond part = rw (lt-ltb 0 (suc (suc (suc (suc part)))) (omega arith), le-ltb (suc (suc (suc (suc part)))) 4 (omega arith))
+-- each row; a new one has its line here
+like-part-1 : Fair fm25l04
+like-part-1 =
+    record { mask = lit< tt; pages = refl; top = lit≤ tt; bits = 1; low = refl; header = one 3 refl refl; quarter = refl; half = refl }
+
+like-part-3 : Fair fm25c160
+like-part-3 =
+    record { mask = lit< tt; pages = refl; top = lit≤ tt; bits = 3; low = refl; header = two refl refl; quarter = refl; half = refl }
+
+all-fair : AllFair rows
+all-fair = also like-part-1 (also like-part-1 (also like-part-3 done))
+
+-- a row that is there
+fair-at : (fs : List Figure) → AllFair fs → (k : ℕ) → k < length fs → Fair (getD fs k none)
+fair-at (f ∷ fs) (also here more) zero h = here
+fair-at (f ∷ fs) (also here more) (suc k) h = fair-at fs more k (omega arith)
+fair-at [] done k h = absurd (eqb-false 0 1 refl (omega arith))
+
+pub below-count : (part : ℕ) → isPart part ≡ true → part < length parts
+below-count part h = ltb-true part (length parts) (right (ltb 0 part) (ltb part (length parts)) h)
 
 pub fair : (part : ℕ) → isPart part ≡ true → Fair (figureOf part)
 unfolding figureOf
 fair zero h = absurd (eqb-false 0 1 refl (clash h))
-fair (suc zero) h = record { mask = lit< tt; pages = refl; top = lit≤ tt; bits = 1; low = refl; header = one 3 refl refl }
-fair (suc (suc zero)) h = record { mask = lit< tt; pages = refl; top = lit≤ tt; bits = 1; low = refl; header = one 3 refl refl }
-fair (suc (suc (suc zero))) h = record { mask = lit< tt; pages = refl; top = lit≤ tt; bits = 3; low = refl; header = two refl refl }
-fair (suc (suc (suc (suc part)))) h = absurd (eqb-false 0 1 refl (clash (sym (beyond part) ∙ h)))
+fair (suc k) h = fair-at rows all-fair k (omega (arith, below-count (suc k) h))
 
 every : (Figure → Bool) → List Figure → Bool
 every test [] = true
@@ -52,7 +74,7 @@ row test [] h n k = n
 row test (f ∷ fs) h n zero = left (test f) (every test fs) h
 row test (f ∷ fs) h n (suc k) = row test fs (right (test f) (every test fs) h) n k
 
--- no array is larger than LARGEST (src/figures.rt); a number that is no part's has none
+-- What a test says of each row it says of any number's. No array is larger than LARGEST (src/figures.rt); a number that is no part's has none
 pub largest : (part : ℕ) → figureOf part .size ≤ 2048
 unfolding figureOf every
 largest part = leb-true (figureOf part .size) 2048 (row (λ f. leb (f .size) 2048) parts refl refl part)

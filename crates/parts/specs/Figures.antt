@@ -1,10 +1,15 @@
--- "Three SPI F-RAM parts by Ramtron, seen at their pins": the table of document 01. What each figure means is said
--- where the code declares it (src/figures.rt). Assumes nothing.
+-- "Three SPI F-RAM parts by Ramtron, seen at their pins": the table of document 01. Assumes nothing.
+-- What a row says: size, the array's bytes; kept, the status bits that are kept; address_bytes, how many follow the
+-- op-code; upper, the upper address bits that are not ignored; codes, the op-codes, and in top the bit of READ's and
+-- WRITE's that is the top address bit, 0 for none; guards_array, whether /WP low holds back the array; enable, the kept
+-- bit (WPEN) that must be set for /WP low to hold back the status byte, 0 where none need be; quarter and half, where the
+-- upper quarter and the upper half begin.
 use Prim.Native.Nat.{ℕ}
 use mathlib.Core.Bool.{Bool, true, false, _&&_}
 use mathlib.Core.List.{List, [], _∷_}
-use lib.ListN.{getD}
-use lib.Dec.{ltb}
+use lib.ListN.{getD, length}
+use lib.Bits.{bitAnd}
+use lib.Dec.{eqb, ltb}
 use Rattle.parts.specs.declared.figures.Figure.{Figure}
 
 -- a number that is no part's
@@ -22,7 +27,8 @@ none =
       half = 0;
     }
 
--- "1 | FM25L04 | 512 | op-code bit 3 is the top bit, then one byte | 0Ch"
+-- "1 | FM25L04 | 512 | op-code bit 3 is the top bit, then one byte | 0Ch". "READ 03h and 0Bh, WRITE 02h and 0Ah, bit 3
+--  being A8." "/WP low holds back the array and the status byte." "180h and 100h up."
 abbrev pub fm25l04 : Figure
 fm25l04 =
     record {
@@ -41,7 +47,8 @@ fm25l04 =
 abbrev pub fm25l04b : Figure
 fm25l04b = fm25l04
 
--- "3 | FM25C160 | 2,048 | two bytes, upper five bits ignored | 8Ch"
+-- "3 | FM25C160 | 2,048 | two bytes, upper five bits ignored | 8Ch". "READ 03h, WRITE 02h." "/WP low with WPEN set holds
+--  back the status byte only." "600h and 400h up."
 abbrev pub fm25c160 : Figure
 fm25c160 =
     record {
@@ -56,8 +63,12 @@ fm25c160 =
       half = 0x400;
     }
 
+-- the rows of parts 1 to 3
+abbrev pub rows : List Figure
+rows = fm25l04 ∷ fm25l04b ∷ fm25c160 ∷ []
+
 abbrev pub parts : List Figure
-parts = none ∷ fm25l04 ∷ fm25l04b ∷ fm25c160 ∷ []
+parts = none ∷ rows
 
 -- a part's row
 unfoldable pub figureOf : ℕ → Figure
@@ -65,4 +76,12 @@ figureOf part = getD parts part none
 
 -- "1 | part not 1 to 3"
 abbrev pub isPart : ℕ → Bool
-isPart part = ltb 0 part && ltb part 4
+isPart part = ltb 0 part && ltb part (length parts)
+
+-- "2 | array length is not the part's"
+abbrev pub fitsPart : ℕ → ℕ → Bool
+fitsPart part len = eqb len (figureOf part .size)
+
+-- "3 | kept bits outside the mask"
+abbrev pub inMask : ℕ → ℕ → Bool
+inMask part kept = eqb (bitAnd kept (figureOf part .kept)) kept

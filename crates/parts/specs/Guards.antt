@@ -36,7 +36,9 @@ mayStore f latch kept wp at =
     (cond (leb (firstProtected f kept) at) (HeldBack Block)
     Allowed))
 
--- "Part 3: /WP low with WPEN set holds back the status byte only." "Blocks don't guard the status byte."
+-- "The latch must be set. Parts 1 and 2: /WP low holds back .. the status byte. Part 3: /WP low with WPEN set holds back
+--  the status byte only." On parts 1 and 2 the row names no such bit, and none need be set. "Blocks don't guard the
+--  status byte."
 unfoldable pub mayKeep : Figure → Bool → ℕ → Bool → Verdict
 mayKeep f latch kept wp =
     cond (not latch) (HeldBack LatchOff)

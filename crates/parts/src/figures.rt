@@ -32,8 +32,10 @@ pub struct Figure {
     pub half: usize,
 }
 
-// Row 0 is no part's.
-pub const PARTS: [Figure; 4] = [
+// How many rows there are; row 0 is no part's.
+const ROWS: usize = 4;
+
+pub const PARTS: [Figure; ROWS] = [
     Figure {
         size: 0,
         kept: 0,
@@ -119,14 +121,14 @@ pub const LARGEST: usize = 2048;
 pub fn is_part(part: u64) -> bool
     ensures { λ r. ⌜ r ≡ isPart part ⌝ }
 {
-    0 < part && part < 4
+    0 < part && part < ROWS as u64
 }
 
 // A part's row; row 0 for a number that is no part's.
 pub fn figure_of(part: u64) -> Figure
     ensures { λ r. ⌜ r ≡ figureOf part ⌝ }
 {
-    if part < 4 {
+    if part < ROWS as u64 {
         let row = part as usize;
         PARTS[row]
     } else {

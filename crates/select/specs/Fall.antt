@@ -17,6 +17,7 @@ use Rattle.stages.specs.declared.stage.Stage.{Stage}
 use Rattle.stages.specs.declared.stage.Stage.the-variants.{Closed, Code, Upper, Lower, Ready, Showing, Writing, Keeping, Over}
 
 -- "Status byte: bit 7 WPEN (part 3; 0 on parts 1 and 2), bits 3 and 2 BP1 and BP0, bit 1 the latch, the rest 0."
+-- The kept bits lie under the part's mask, so the rest is 0.
 abbrev pub statusByte : ℕ → Bool → ℕ
 statusByte kept latch = cond latch (bitOr kept 2) kept
 
@@ -35,6 +36,7 @@ unfoldable pub afterByte : Figure → List ℕ → ℕ → Source → Stage
 afterByte f xs status (Array at) = shows xs status (Array (nextAddress f at)) 7
 afterByte f xs status Status = Over false
 
+-- "once the header is whole": before that, and where nothing is shown, a fall does nothing
 unfoldable pub fall : Figure → List ℕ → ℕ → Stage → Stage
 fall f xs status Closed = Closed
 fall f xs status (Code shift) = Code shift

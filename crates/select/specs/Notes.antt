@@ -1,7 +1,7 @@
 -- What an answer says, in the numbers of document 01. Assumes nothing.
 use Prim.Native.Nat.{ℕ}
-use mathlib.Core.Bool.{Bool, true, false}
 use Rattle.parts.specs.Guards.{reasonNumber}
+use Rattle.stages.specs.Bits.{lowBit}
 use Rattle.select.specs.declared.notes.Level.{Level}
 use Rattle.select.specs.declared.notes.Level.the-variants.{Low, High, Released}
 use Rattle.select.specs.declared.notes.Note.{Note}
@@ -20,15 +20,11 @@ pub record NoteNumbers : Type 0 where
   pub first : ℕ
   pub second : ℕ
 
-abbrev bit : Bool → ℕ
-bit false = 0
-bit true = 1
-
 -- "nothing; latch, with its new value; stored, with address and byte; held back, with address and reason;
 --  kept bits set, with their value; kept bits held back, with reason; power lost"
 abbrev pub noteNumbers : Note → NoteNumbers
 noteNumbers Nothing = record { kind = 0; first = 0; second = 0 }
-noteNumbers (Latch on) = record { kind = 1; first = bit on; second = 0 }
+noteNumbers (Latch on) = record { kind = 1; first = lowBit on; second = 0 }
 noteNumbers (Stored at byte) = record { kind = 2; first = at; second = byte }
 noteNumbers (HeldBack at reason) = record { kind = 3; first = at; second = reasonNumber reason }
 noteNumbers (KeptSet kept) = record { kind = 4; first = kept; second = 0 }

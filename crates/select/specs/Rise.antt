@@ -32,7 +32,7 @@ quiet seen stage = record { stage = stage; latch = seen .latch; kept = seen .kep
 abbrev pub latched : Seen → Bool → Risen
 latched seen on = record { stage = Over false; latch = on; kept = seen .kept; note = Latch on }
 
--- "Other op-codes and later bits that no rule names do nothing (one op-code per select)."
+-- "Other op-codes .. do nothing (one op-code per select)."
 abbrev pub begun : Figure → Seen → ℕ → Command → Risen
 begun f seen code Wren = latched seen true
 begun f seen code Wrdi = latched seen false
@@ -71,12 +71,13 @@ lowerTaken seen write page (Whole byte) = quiet seen (afterAddress write page by
 unfoldable pub lowerRise : Seen → LowerByte → Risen
 lowerRise seen lower = lowerTaken seen (lower .write) (lower .page) (takeBit (lower .shift) (seen .si))
 
+-- stored, or "held back, with address and reason"
 abbrev pub storeNote : ℕ → ℕ → verdict.Verdict → Note
 storeNote at byte verdict.the-variants.Allowed = Stored at byte
 storeNote at byte (verdict.the-variants.HeldBack reason) = HeldBack at reason
 
 -- "WRITE stores each data byte at the eighth rise of that byte, then steps the address, rolling over.
---  A byte held back steps the address too (H)."
+--  A byte held back steps the address too (H)." "/WP is read at the eighth rise of the data byte (H)."
 abbrev pub writeTaken : Figure → Seen → Writer → Taken → Risen
 writeTaken f seen w (Part more) =
     quiet seen (Writing (record { at = w .at; shift = more; whole = w .whole }))
@@ -91,14 +92,14 @@ writeTaken f seen w (Whole byte) =
 unfoldable pub writeRise : Figure → Seen → Writer → Risen
 writeRise f seen w = writeTaken f seen w (takeBit (w .shift) (seen .si))
 
+-- "keeps the byte under the part's mask. Further bytes do nothing (H)."
 abbrev pub keptBy : Figure → Seen → ℕ → verdict.Verdict → Risen
 keptBy f seen byte verdict.the-variants.Allowed =
     record { stage = Over true; latch = seen .latch; kept = bitAnd byte (f .kept); note = KeptSet (bitAnd byte (f .kept)) }
 keptBy f seen byte (verdict.the-variants.HeldBack reason) =
     record { stage = Over true; latch = seen .latch; kept = seen .kept; note = KeptHeldBack reason }
 
--- "WRSR takes the first data byte at its eighth rise and keeps the byte under the part's mask. Further bytes do
---  nothing (H)."
+-- "WRSR takes the first data byte at its eighth rise". "/WP is read at the eighth rise of the data byte (H)."
 abbrev pub keepTaken : Figure → Seen → Taken → Risen
 keepTaken f seen (Part more) = quiet seen (Keeping more)
 keepTaken f seen (Whole byte) = keptBy f seen byte (mayKeep f (seen .latch) (seen .kept) (seen .wp))
@@ -106,7 +107,7 @@ keepTaken f seen (Whole byte) = keptBy f seen byte (mayKeep f (seen .latch) (see
 unfoldable pub keepRise : Figure → Seen → Shift → Risen
 keepRise f seen shift = keepTaken f seen (takeBit shift (seen .si))
 
--- a seen rise of SCK
+-- a seen rise of SCK, by what stands; "later bits that no rule names do nothing"
 unfoldable pub rise : Figure → Seen → Stage → Risen
 rise f seen Closed = quiet seen Closed
 rise f seen (Code shift) = codeRise f seen shift

@@ -1,12 +1,12 @@
 -- A seen rise and a seen fall of SCK keep a stage sound, over any part's figures. Assumes nothing.
-use Prim.Native.Nat.{ℕ, _-_}
+use Prim.Native.Nat.{ℕ, _-_, _*_}
 use mathlib.Core.Path.{_≡_, refl}
 use mathlib.Core.Bool.{Bool, true, false, cond}
 use mathlib.Core.List.{List}
 use native.Mathlib.Omega.{arith}
-use borrow.Author.Tests.{lt-ltb, le-leb, ltb-true, leb-true}
+use borrow.Author.Tests.{lt-ltb, ltb-true}
 use lib.Bits.{bitAnd, and-le-r}
-use lib.Dec.{eqb, leb, ltb}
+use lib.Dec.{eqb, ltb}
 use Rattle.parts.specs.Commands.{command}
 use Rattle.parts.specs.FigureLaws.{Fair}
 use Rattle.parts.specs.MaskLaws.{under-twice}
@@ -20,7 +20,7 @@ use Rattle.stages.specs.Address.{upperPage}
 use Rattle.stages.specs.Bits.{takeBit}
 use Rattle.select.specs.Fall.{shows, afterByte, fall}
 use Rattle.select.specs.Rise.{begun, opened, codeTaken, codeRise, upperTaken, upperRise, lowerTaken, lowerRise, writeTaken, writeRise, keptBy, keepTaken, keepRise, rise}
-use Rattle.stages.specs.SoundLaws.{SoundTaken, take-sound, next-sound, after-code, after-address}
+use Rattle.stages.specs.SoundLaws.{within, SoundTaken, take-sound, next-sound, after-code, after-address}
 use Rattle.stages.specs.Sound.{soundShift, soundStage}
 use Rattle.stages.specs.declared.stage.Source.{Source}
 use Rattle.stages.specs.declared.stage.Source.the-variants.{Array, Status}
@@ -101,13 +101,13 @@ module _ (f : Figure) (fair : Fair f) where
       → soundStage f (upperTaken f seen write t .stage) ≡ true
   unfolding soundStage soundShift
   upper-sound seen write (Part more) two h = both two h
-  upper-sound seen write (Whole byte) two h = rw (le-leb (upperPage f byte) (f .upper) (and-le-r byte (f .upper)))
+  upper-sound seen write (Whole byte) two h = rw (lt-ltb (upperPage f byte * 256) (f .size) (within f fair (and-le-r byte (f .upper))))
 
-  lower-sound : (seen : Seen) (write : Bool) (page : ℕ) (t : Taken) → leb page (f .upper) ≡ true → SoundTaken t
+  lower-sound : (seen : Seen) (write : Bool) (page : ℕ) (t : Taken) → ltb (page * 256) (f .size) ≡ true → SoundTaken t
       → soundStage f (lowerTaken seen write page t .stage) ≡ true
   unfolding soundStage
   lower-sound seen write page (Part more) p h = both p h
-  lower-sound seen write page (Whole byte) p h = after-address f fair write (leb-true page (f .upper) p) h
+  lower-sound seen write page (Whole byte) p h = after-address f fair write page (ltb-true (page * 256) (f .size) p) h
 
   write-sound : (seen : Seen) (w : Writer) (t : Taken) → ltb (w .at) (f .size) ≡ true → SoundTaken t
       → soundStage f (writeTaken f seen w t .stage) ≡ true
@@ -132,7 +132,7 @@ module _ (f : Figure) (fair : Fair f) where
   rise-sound seen (Upper upper) h =
       upper-sound seen (upper .write) (takeBit (upper .shift) (seen .si)) (left _ _ h) (take-sound (upper .shift) (seen .si) (right (eqb (f .«address_bytes») 2) _ h))
   rise-sound seen (Lower lower) h =
-      lower-sound seen (lower .write) (lower .page) (takeBit (lower .shift) (seen .si)) (left _ _ h) (take-sound (lower .shift) (seen .si) (right (leb (lower .page) (f .upper)) _ h))
+      lower-sound seen (lower .write) (lower .page) (takeBit (lower .shift) (seen .si)) (left _ _ h) (take-sound (lower .shift) (seen .si) (right (ltb (lower .page * 256) (f .size)) _ h))
   rise-sound seen (Ready source) h = h
   rise-sound seen (Showing shown) h = h
   rise-sound seen (Writing w) h =

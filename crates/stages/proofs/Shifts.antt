@@ -1,6 +1,6 @@
 -- What a shift to the right says of a byte: bits beyond the eighth are clear, and a number is below 2 ^ bits exactly
 -- where nothing is left above them. Assumes nothing.
-use mathlib.Core.Path.{_≡_, refl, sym, _∙_}
+use mathlib.Core.Path.{_≡_, refl}
 use mathlib.Core.Bool.{Bool, true, false}
 use Prim.Native.Nat.{ℕ, _≤_, _<_, _/_, _^_}
 use native.Mathlib.Nat.{div-eq-of-lt, lt-of-lt-of-le, le-div-iff-mul-le, one-mul}

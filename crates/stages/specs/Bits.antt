@@ -11,6 +11,7 @@ use Rattle.stages.specs.declared.bits.Taken.the-variants.{Part, Whole}
 abbrev pub fresh : Shift
 fresh = record { bits = 0; byte = 0 }
 
+-- a level as a number
 abbrev pub lowBit : Bool → ℕ
 lowBit false = 0
 lowBit true = 1

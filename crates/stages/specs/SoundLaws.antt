@@ -1,11 +1,11 @@
 -- A bit taken and an address made leave a sound stage, over any part's figures. Assumes nothing.
-use Prim.Native.Nat.{ℕ, _+_, _-_, _*_, _%_, _^_, _<_, _≤_, zero-le}
+use Prim.Native.Nat.{ℕ, _+_, _*_, _%_, _^_, _<_, _≤_, zero-le}
 use mathlib.Core.Path.{_≡_, refl}
 use mathlib.Core.Bool.{Bool, true, false, cond}
 use native.Mathlib.Nat.{lt-of-le-of-lt, lt-of-lt-of-le, mod-le, mod-lt, pow-suc, mul-lt-mul-of-pos-right}
 use native.Mathlib.Numerals.{add-one}
 use native.Mathlib.Omega.{arith}
-use borrow.Author.Tests.{lt-ltb, le-leb, ltb-true, leb-false}
+use borrow.Author.Tests.{lt-ltb, ltb-true, leb-false}
 use lib.Bits.{bitAnd, or-lt}
 use lib.Dec.{eqb, leb, ltb, lit<, lit≤}
 use lib.Pow.{pow-mono}
@@ -56,9 +56,9 @@ take-sound shift si h = go (leb 7 (shift .bits)) refl
         (lt-ltb _ _ (shifted-small (shift .bits) (shift .byte) si small))
 
 module _ (f : Figure) (fair : Fair f) where
-  -- an address within the pages is within the array
-  paged : {page byte : ℕ} → page ≤ f .upper → byte < 2 ^ 8 → page * 256 + byte < f .size
-  paged p h = rw (fair .pages) (omega arith)
+  -- a page that begins in the array lies in it
+  paged : (page : ℕ) {byte : ℕ} → page * 256 < f .size → byte < 2 ^ 8 → page * 256 + byte < f .size
+  paged page p h = rw (fair .pages) (omega (arith, rw (fair .pages) at p))
 
   pub next-sound : (at : ℕ) → nextAddress f at < f .size
   unfolding nextAddress
@@ -67,6 +67,10 @@ module _ (f : Figure) (fair : Fair f) where
       go : (t : Bool) → leb (f .size) (at + 1) ≡ t → cond t 0 (at + 1) < f .size
       go true e = rw (fair .pages) (omega arith)
       go false e = leb-false (f .size) (at + 1) e
+
+  -- a page under the upper address bits begins in the array
+  pub within : {page : ℕ} → page ≤ f .upper → page * 256 < f .size
+  within p = rw (fair .pages) (omega (arith, p))
 
   code-page : (code : ℕ) → codePage f code ≤ f .upper
   code-page code = go (eqb (bitAnd code (f .codes .top)) 0)
@@ -82,9 +86,9 @@ module _ (f : Figure) (fair : Fair f) where
       go : (t : Bool) → eqb (f .«address_bytes») 2 ≡ t
           → soundStage f (cond t (Upper (record { write = write; shift = fresh })) (Lower (record { write = write; page = codePage f code; shift = fresh }))) ≡ true
       go true e = rw e
-      go false e = rw (le-leb (codePage f code) (f .upper) (code-page code))
+      go false e = rw (lt-ltb (codePage f code * 256) (f .size) (within (code-page code)))
 
-  pub after-address : (write : Bool) {page byte : ℕ} → page ≤ f .upper → byte < 2 ^ 8 → soundStage f (afterAddress write page byte) ≡ true
+  pub after-address : (write : Bool) (page : ℕ) {byte : ℕ} → page * 256 < f .size → byte < 2 ^ 8 → soundStage f (afterAddress write page byte) ≡ true
   unfolding afterAddress soundStage soundShift
-  after-address true p h = rw (lt-ltb _ _ (paged p h))
-  after-address false p h = lt-ltb _ _ (paged p h)
+  after-address true page p h = rw (lt-ltb _ _ (paged page p h))
+  after-address false page p h = lt-ltb _ _ (paged page p h)

@@ -23,6 +23,7 @@ fn low_bit(si: bool) -> u8
     if si { 1 } else { 0 }
 }
 
+// The byte with one more bit, "most significant bit first".
 pub fn take_bit(shift: Shift, si: bool) -> Taken
     ensures { λ r. ⌜ r ≡ takeBit shift si ⌝ }
 {
@@ -34,6 +35,7 @@ pub fn take_bit(shift: Shift, si: bool) -> Taken
     Taken::Part(Shift { bits, byte })
 }
 
+// Bit number `bit` of a byte.
 pub fn bit_of(byte: u8, bit: u8) -> bool
     ensures { λ r. ⌜ r ≡ bitOf byte bit ⌝ }
 {

@@ -1,12 +1,12 @@
 // The part of the soundness test that looks at the stage.
 ghost use mathlib.Core.Path.{_≡_};
 ghost use Rattle.stages.specs.Sound.{soundShift, soundSource, soundStage};
-use crate::address::widen;
 use crate::stage::Shift;
 use crate::stage::Source;
 use crate::stage::Stage;
 use parts::figures::Figure;
 
+// Under eight bits, and no more in the byte than those.
 fn sound_shift(shift: Shift) -> bool
     ensures { λ r. ⌜ r ≡ soundShift shift ⌝ }
 {
@@ -26,6 +26,7 @@ fn sound_source(f: Figure, source: Source) -> bool
     }
 }
 
+// Whether the stage is sound on this part.
 pub fn sound_stage(f: Figure, stage: Stage) -> bool
     ensures { λ r. ⌜ r ≡ soundStage f stage ⌝ }
 {
@@ -38,7 +39,7 @@ pub fn sound_stage(f: Figure, stage: Stage) -> bool
         }
         Stage::Lower(lower) => {
             let shift = lower.shift;
-            (lower.page <= widen(f.upper)) & sound_shift(shift)
+            ((lower.page as usize) * 256 < f.size) & sound_shift(shift)
         }
         Stage::Ready(source) => sound_source(f, source),
         Stage::Showing(shown) => {

@@ -9,18 +9,17 @@ use lib.ListN.{length, length-set}
 use lib.Dec.{eqb, leb}
 use borrow.Author.Tests.{leb-true, eq-eqb, ne-eqb}
 use Rattle.parts.specs.FigureLaws.{Fair, fair}
-use Rattle.parts.specs.Figures.{figureOf, isPart}
+use Rattle.parts.specs.Figures.{figureOf, isPart, inMask}
 use Rattle.select.specs.declared.notes.Note.{Note}
 use Rattle.select.specs.declared.notes.Note.the-variants.{Nothing, Latch, Stored, HeldBack, KeptSet, KeptHeldBack, PowerLost}
 use Rattle.lines.specs.Lines.{atRest}
-use Rattle.lines.specs.Edges.{cut}
 use Rattle.chip.specs.Event as chip
 use Rattle.chip.specs.EventLaws.{event-steps, checks-none}
 use Rattle.chip.specs.Event.{checks, event, step, live, written}
 use Rattle.chip.specs.SoundLaws.{event-sound}
 use Rattle.lines.specs.SoundLaws.{rest-sound}
-use Rattle.lines.specs.Sound.{inMask, sound}
-use Rattle.lines.specs.declared.state.Hold.the-variants.{Off}
+use Rattle.lines.specs.Sound.{sound}
+use Rattle.lines.specs.declared.hold.Hold.the-variants.{High}
 use Rattle.stages.specs.declared.stage.Stage.the-variants.{Closed}
 use Rattle.lines.specs.declared.state.State.{State}
 use Rattle.history.specs.Lines.{Lines, rest, refused, after, act, acts, passes}
@@ -159,7 +158,7 @@ pub reached-from :
 reached-from part kept array one under fits =
     reached part (fair part one)
     (record {
-      agrees = on outside (asleep kept array) (asleep kept array) false false true Off Closed closed;
+      agrees = on outside (asleep kept array) (asleep kept array) false false true High Closed closed;
       good = rest-sound part kept true one under;
       fits = fits;
     })
@@ -178,7 +177,7 @@ run-append c (code ∷ codes) more = run-append (next c code) codes more
 -- the cut and the return of power
 cut-dark : {part : ℕ} {l : Lines} {p : Place} {w : World} {c : Chip} → Agrees part l p w c
     → answered c (step (figureOf part) (c .array) (c .state) 10) ≡ offChip part (c .state .kept) (c .array)
-unfolding step live cut written
+unfolding step live written
 cut-dark (off kept array) = refl
 cut-dark (on p w v sck si wp hold stage s) = refl
 

@@ -9,18 +9,17 @@ use lib.Dec.{eqb, leb}
 use borrow.Author.Tests.{leb-false, eqb-true, eqb-false}
 use Rattle.parts.specs.FigureLaws.{Fair}
 use Rattle.parts.specs.Figures.{figureOf}
-use Rattle.stages.specs.Close.{isClosed, drops}
+use Rattle.stages.specs.Close.{drops}
 use Rattle.select.specs.Fall.{statusByte}
 use Rattle.select.specs.Rise.{rise}
 use Rattle.select.specs.declared.notes.Note.the-variants.{Latch}
 use Rattle.stages.specs.declared.stage.Stage.{Stage}
 use Rattle.stages.specs.declared.stage.Stage.the-variants.{Closed}
-use Rattle.lines.specs.Lines.{atRest, csLevel}
-use Rattle.lines.specs.Edges.{still, csFall, csRise, sckRise, sckFall, holdFall, holdRise, cut}
+use Rattle.lines.specs.Lines.{atRest, holdHigh}
+use Rattle.lines.specs.Edges.{silent, csFall, csRise, sckRise, sckFall, holdFall, holdRise}
 use Rattle.chip.specs.Event.{accepted, csStayed, live, step, written}
-use Rattle.lines.specs.Sound.{isOff}
-use Rattle.lines.specs.declared.state.Hold.{Hold}
-use Rattle.lines.specs.declared.state.Hold.the-variants.{Off, OnLow, OnHigh}
+use Rattle.lines.specs.declared.hold.Hold.{Hold}
+use Rattle.lines.specs.declared.hold.Hold.the-variants.{High, LowCsLow, LowCsHigh}
 use Rattle.history.specs.Lines.{Lines, rest, put, refused, after, act}
 use Rattle.history.specs.History.{World}
 use Rattle.history.specs.Run.{Chip, answered}
@@ -29,18 +28,13 @@ use Rattle.history.specs.Laws.Select.{Selected, closed, going, select-op
 
 -- the level of /CS, by /HOLD and whether no select is open
 abbrev csOf : Hold → Bool → Bool
-csOf Off seen = seen
-csOf OnLow seen = false
-csOf OnHigh seen = true
-
-abbrev isHigh : Hold → Bool
-isHigh Off = true
-isHigh OnLow = false
-isHigh OnHigh = false
+csOf High seen = seen
+csOf LowCsLow seen = false
+csOf LowCsHigh seen = true
 
 abbrev pub linesOf : Bool → Bool → Bool → Hold → Bool → Lines
 linesOf sck si wp hold seen =
-    record { power = true; cs = csOf hold seen; sck = sck; si = si; hold = isHigh hold; wp = wp; seen = seen }
+    record { power = true; cs = csOf hold seen; sck = sck; si = si; hold = holdHigh hold; wp = wp; seen = seen }
 
 abbrev pub chipOf : ℕ → World → Bool → Bool → Bool → Hold → Stage → Chip
 chipOf part v sck si wp hold stage =
@@ -115,54 +109,54 @@ module _ (part : ℕ) (fair : Fair (figureOf part)) where
 
     cs-low : After 0
     unfolding after refused put act placed base worldAt step live csFall written
-    cs-low sck Off _ _ _ closed = on (inside []) w w sck si wp Off _ (select-fresh (figureOf part) w)
-    cs-low sck Off _ _ _ (going bs whole r v stage c e) =
+    cs-low sck High _ _ _ closed = on (inside []) w w sck si wp High _ (select-fresh (figureOf part) w)
+    cs-low sck High _ _ _ (going bs whole r v stage c e) =
         let s = going bs whole r v stage c e in
-        rw (select-open (figureOf part) w s) (on (inside bs) w v sck si wp Off stage s)
-    cs-low sck OnLow p v stage s = on p w v sck si wp OnLow stage s
-    cs-low sck OnHigh p v stage s = on p w v sck si wp OnLow stage s
+        rw (select-open (figureOf part) w s) (on (inside bs) w v sck si wp High stage s)
+    cs-low sck LowCsLow p v stage s = on p w v sck si wp LowCsLow stage s
+    cs-low sck LowCsHigh p v stage s = on p w v sck si wp LowCsLow stage s
 
     -- the close drops the latch, if it was set
     abbrev shut : Bool → Bool → ℕ → List ℕ → Chip
-    shut sck latch kept array = chipOf part (record { latch = latch; kept = kept; array = array }) sck si wp Off Closed
+    shut sck latch kept array = chipOf part (record { latch = latch; kept = kept; array = array }) sck si wp High Closed
 
     closing :
         (sck latch d : Bool) (kept : ℕ) (array : List ℕ)
-        → Agrees part (linesOf sck si wp Off true) outside
+        → Agrees part (linesOf sck si wp High true) outside
         (cond d (asleep kept array) (record { latch = latch; kept = kept; array = array }))
-        (answered (shut sck latch kept array) (accepted (cond (latch && d) (record { state = shut sck false kept array .state; note = Latch false }) (still (shut sck latch kept array .state)))))
+        (answered (shut sck latch kept array) (accepted (cond (latch && d) (record { state = shut sck false kept array .state; note = Latch false }) (silent (shut sck latch kept array .state)))))
     unfolding written
-    closing sck true true kept array = on outside _ _ sck si wp Off Closed closed
-    closing sck true false kept array = on outside _ _ sck si wp Off Closed closed
-    closing sck false true kept array = on outside _ _ sck si wp Off Closed closed
-    closing sck false false kept array = on outside _ _ sck si wp Off Closed closed
+    closing sck true true kept array = on outside _ _ sck si wp High Closed closed
+    closing sck true false kept array = on outside _ _ sck si wp High Closed closed
+    closing sck false true kept array = on outside _ _ sck si wp High Closed closed
+    closing sck false false kept array = on outside _ _ sck si wp High Closed closed
 
     cs-high : After 1
     unfolding after refused put act placed base step live csRise written
-    cs-high sck Off _ _ _ closed = on outside w w sck si wp Off Closed closed
-    cs-high sck Off _ _ _ (going bs whole r v stage c e) =
+    cs-high sck High _ _ _ closed = on outside w w sck si wp High Closed closed
+    cs-high sck High _ _ _ (going bs whole r v stage c e) =
         let s = going bs whole r v stage c e in
         rw (select-open (figureOf part) w s, ← select-close (figureOf part) fair w s)
         (closing sck (v .latch) (drops stage) (v .kept) (v .array))
-    cs-high sck OnLow p v stage s = on p w v sck si wp OnHigh stage s
-    cs-high sck OnHigh p v stage s = on p w v sck si wp OnHigh stage s
+    cs-high sck LowCsLow p v stage s = on p w v sck si wp LowCsHigh stage s
+    cs-high sck LowCsHigh p v stage s = on p w v sck si wp LowCsHigh stage s
 
     sck-low : After 2
     unfolding after refused put act placed base step live sckFall written
-    sck-low true Off p v stage s =
-        on p w v false si wp Off _ (select-fall (figureOf part) w (v .array) (statusByte (v .kept) (v .latch)) s)
-    sck-low true OnLow p v stage s = on p w v false si wp OnLow stage s
-    sck-low true OnHigh p v stage s = on p w v false si wp OnHigh stage s
+    sck-low true High p v stage s =
+        on p w v false si wp High _ (select-fall (figureOf part) w (v .array) (statusByte (v .kept) (v .latch)) s)
+    sck-low true LowCsLow p v stage s = on p w v false si wp LowCsLow stage s
+    sck-low true LowCsHigh p v stage s = on p w v false si wp LowCsHigh stage s
     sck-low false hold p v stage s = on p w v false si wp hold stage s
 
     sck-high : After 3
     unfolding after refused put act placed base step live sckRise rise written
-    sck-high false Off _ _ _ closed = on outside w w true si wp Off Closed closed
-    sck-high false Off _ _ _ (going bs whole r v stage c e) =
+    sck-high false High _ _ _ closed = on outside w w true si wp High Closed closed
+    sck-high false High _ _ _ (going bs whole r v stage c e) =
         let s = going bs whole r v stage c e in
-        on _ w _ true si wp Off _ (select-rise (figureOf part) fair w (record { si = si; wp = wp }) s)
-    sck-high false OnLow p v stage s = on p w v true si wp OnLow stage s
-    sck-high false OnHigh p v stage s = on p w v true si wp OnHigh stage s
+        on _ w _ true si wp High _ (select-rise (figureOf part) fair w (record { si = si; wp = wp }) s)
+    sck-high false LowCsLow p v stage s = on p w v true si wp LowCsLow stage s
+    sck-high false LowCsHigh p v stage s = on p w v true si wp LowCsHigh stage s
     sck-high true hold p v stage s = on p w v true si wp hold stage s
 
     si-low : After 4
@@ -175,27 +169,27 @@ module _ (part : ℕ) (fair : Fair (figureOf part)) where
 
     hold-low : After 6
     unfolding after refused put act placed base step live holdFall written
-    hold-low true Off p v stage s = on p w v true si wp Off stage s
-    hold-low false Off _ _ _ closed = on outside w w false si wp OnHigh Closed closed
-    hold-low false Off _ _ _ (going bs whole r v stage c e) =
+    hold-low true High p v stage s = on p w v true si wp High stage s
+    hold-low false High _ _ _ closed = on outside w w false si wp LowCsHigh Closed closed
+    hold-low false High _ _ _ (going bs whole r v stage c e) =
         let s = going bs whole r v stage c e in
-        rw (select-open (figureOf part) w s) (on (inside bs) w v false si wp OnLow stage s)
-    hold-low sck OnLow p v stage s = on p w v sck si wp OnLow stage s
-    hold-low sck OnHigh p v stage s = on p w v sck si wp OnHigh stage s
+        rw (select-open (figureOf part) w s) (on (inside bs) w v false si wp LowCsLow stage s)
+    hold-low sck LowCsLow p v stage s = on p w v sck si wp LowCsLow stage s
+    hold-low sck LowCsHigh p v stage s = on p w v sck si wp LowCsHigh stage s
 
     hold-high : After 7
     unfolding after refused put act placed base step live csStayed holdRise written
-    hold-high sck Off p v stage s = on p w v sck si wp Off stage s
-    hold-high true OnLow p v stage s = on p w v true si wp OnLow stage s
-    hold-high true OnHigh p v stage s = on p w v true si wp OnHigh stage s
-    hold-high false OnLow _ _ _ closed = on outside w w false si wp OnLow Closed closed
-    hold-high false OnHigh _ _ _ closed = on outside w w false si wp Off Closed closed
-    hold-high false OnLow _ _ _ (going bs whole r v stage c e) =
+    hold-high sck High p v stage s = on p w v sck si wp High stage s
+    hold-high true LowCsLow p v stage s = on p w v true si wp LowCsLow stage s
+    hold-high true LowCsHigh p v stage s = on p w v true si wp LowCsHigh stage s
+    hold-high false LowCsLow _ _ _ closed = on outside w w false si wp LowCsLow Closed closed
+    hold-high false LowCsHigh _ _ _ closed = on outside w w false si wp High Closed closed
+    hold-high false LowCsLow _ _ _ (going bs whole r v stage c e) =
         let s = going bs whole r v stage c e in
-        rw (select-open (figureOf part) w s) (on (inside bs) w v false si wp Off stage s)
-    hold-high false OnHigh _ _ _ (going bs whole r v stage c e) =
+        rw (select-open (figureOf part) w s) (on (inside bs) w v false si wp High stage s)
+    hold-high false LowCsHigh _ _ _ (going bs whole r v stage c e) =
         let s = going bs whole r v stage c e in
-        rw (select-open (figureOf part) w s) (on (inside bs) w v false si wp OnHigh stage s)
+        rw (select-open (figureOf part) w s) (on (inside bs) w v false si wp LowCsHigh stage s)
 
     wp-low : After 8
     unfolding after refused put act placed base step live written
@@ -206,7 +200,7 @@ module _ (part : ℕ) (fair : Fair (figureOf part)) where
     wp-high sck hold p v stage s = on p w v sck si true hold stage s
 
     vdd-low : After 10
-    unfolding after refused put act placed base step live cut written
+    unfolding after refused put act placed base step live written
     vdd-low sck hold p v stage s = rw (← select-world (figureOf part) w s) (off (v .kept) (v .array))
 
     vdd-high : After 11
@@ -228,7 +222,7 @@ module _ (part : ℕ) (fair : Fair (figureOf part)) where
   darkness kept array code h = go (eqb code 11) refl
     where
       go : (t : Bool) → eqb code 11 ≡ t → Follows (rest false) outside (asleep kept array) (offChip part kept array) code
-      go true e = rw (h, e) (on outside (asleep kept array) (asleep kept array) false false true Off Closed closed)
+      go true e = rw (h, e) (on outside (asleep kept array) (asleep kept array) false false true High Closed closed)
       go false e = rw (h, e) (off kept array)
 
   pub follows :

@@ -40,7 +40,7 @@ same-length c = search needs
 
 returns-2 : tie.Need-returns-2
 unfolding event written
-returns-2 c = (simp (c .before .before .store .ensures, c .before .before .before .before .step .ensures, c .before .before .before .before .before .before .figure-of .ensures, ← c .before .before .before .before .before .before .before .before .before .checks .ensures, c .before .before .before .before .before .before .before .before .if1 .left), simp (c .before .before .store .ensures, c .before .before .before .before .step .ensures, c .before .before .before .before .before .before .figure-of .ensures, ← c .before .before .before .before .before .before .before .before .before .checks .ensures, c .before .before .before .before .before .before .before .before .if1 .left))
+returns-2 c = (simp (c .before .before .before .before .step .ensures, c .before .before .before .before .before .before .figure-of .ensures, ← c .before .before .before .before .before .before .before .before .before .checks .ensures, c .before .before .before .before .before .before .before .before .if1 .left), simp (c .before .before .store .ensures, c .before .before .before .before .step .ensures, c .before .before .before .before .before .before .figure-of .ensures, ← c .before .before .before .before .before .before .before .before .before .checks .ensures, c .before .before .before .before .before .before .before .before .if1 .left))
 
 pub event-spec : {M : Type 1} → statement M
 event-spec =

@@ -3,23 +3,23 @@ use borrow.Author.Needs.{needs}
 use Rattle.chip.proofs.event.hold_to.Statement.{statement}
 use Rattle.chip.proofs.event.hold_to.Tie as tie
 
-is-off-requires : tie.Need-is-off-requires
-is-off-requires c κs = search needs
+hold-high-requires : tie.Need-hold-high-requires
+hold-high-requires c κs = search needs
 
-still-requires : tie.Need-still-requires
-still-requires c κs = search needs
+silent-requires : tie.Need-silent-requires
+silent-requires c κs = search needs
 
 accept-requires : tie.Need-accept-requires
 accept-requires c κs = search needs
 
 returns : tie.Need-returns
-returns c = simp (c .accept .ensures, c .before .still .ensures, ← c .before .before .before .before .is-off .ensures, c .before .before .if2 .taken, c .before .before .before .if1 .taken)
+returns c = simp (c .accept .ensures, c .before .silent .ensures, ← c .before .before .before .before .hold-high .ensures, c .before .before .if2 .taken, c .before .before .before .if1 .taken)
 
 refuse-requires : tie.Need-refuse-requires
 refuse-requires c κs = search needs
 
 returns-2 : tie.Need-returns-2
-returns-2 c = simp (c .refuse .ensures, ← c .before .before .before .before .is-off .ensures, c .before .if3 .taken, c .before .before .if2 .left, c .before .before .before .if1 .taken)
+returns-2 c = simp (c .refuse .ensures, ← c .before .before .before .before .hold-high .ensures, c .before .if3 .taken, c .before .before .if2 .left, c .before .before .before .if1 .taken)
 
 cs-stayed-requires : tie.Need-cs-stayed-requires
 cs-stayed-requires c κs = search needs
@@ -31,19 +31,19 @@ accept-requires-2 : tie.Need-accept-requires-2
 accept-requires-2 c κs = search needs
 
 returns-3 : tie.Need-returns-3
-returns-3 c = simp (c .accept2 .ensures, c .before .hold-rise .ensures, ← c .before .before .before .cs-stayed .ensures, ← c .before .before .before .before .before .before .before .is-off .ensures, c .before .before .if4 .taken, c .before .before .before .before .if3 .left, c .before .before .before .before .before .if2 .left, c .before .before .before .before .before .before .if1 .taken)
+returns-3 c = simp (c .accept2 .ensures, c .before .hold-rise .ensures, ← c .before .before .before .cs-stayed .ensures, ← c .before .before .before .before .before .before .before .hold-high .ensures, c .before .before .if4 .taken, c .before .before .before .before .if3 .left, c .before .before .before .before .before .if2 .left, c .before .before .before .before .before .before .if1 .taken)
 
 refuse-requires-2 : tie.Need-refuse-requires-2
 refuse-requires-2 c κs = search needs
 
 returns-4 : tie.Need-returns-4
-returns-4 c = simp (c .refuse2 .ensures, ← c .before .before .cs-stayed .ensures, ← c .before .before .before .before .before .before .is-off .ensures, c .before .if4 .left, c .before .before .before .if3 .left, c .before .before .before .before .if2 .left, c .before .before .before .before .before .if1 .taken)
+returns-4 c = simp (c .refuse2 .ensures, ← c .before .before .cs-stayed .ensures, ← c .before .before .before .before .before .before .hold-high .ensures, c .before .if4 .left, c .before .before .before .if3 .left, c .before .before .before .before .if2 .left, c .before .before .before .before .before .if1 .taken)
 
 refuse-requires-3 : tie.Need-refuse-requires-3
 refuse-requires-3 c κs = search needs
 
 returns-5 : tie.Need-returns-5
-returns-5 c = simp (c .refuse3 .ensures, ← c .before .before .before .before .is-off .ensures, c .before .if6 .taken, c .before .before .if5 .taken, c .before .before .before .if1 .left)
+returns-5 c = simp (c .refuse3 .ensures, ← c .before .before .before .before .hold-high .ensures, c .before .if6 .taken, c .before .before .if5 .taken, c .before .before .before .if1 .left)
 
 hold-fall-requires : tie.Need-hold-fall-requires
 hold-fall-requires c κs = search needs
@@ -52,23 +52,23 @@ accept-requires-3 : tie.Need-accept-requires-3
 accept-requires-3 c κs = search needs
 
 returns-6 : tie.Need-returns-6
-returns-6 c = simp (c .accept3 .ensures, c .before .hold-fall .ensures, ← c .before .before .before .before .before .is-off .ensures, c .before .before .if6 .left, c .before .before .before .if5 .taken, c .before .before .before .before .if1 .left)
+returns-6 c = simp (c .accept3 .ensures, c .before .hold-fall .ensures, ← c .before .before .before .before .before .hold-high .ensures, c .before .before .if6 .left, c .before .before .before .if5 .taken, c .before .before .before .before .if1 .left)
 
-still-requires-2 : tie.Need-still-requires-2
-still-requires-2 c κs = search needs
+silent-requires-2 : tie.Need-silent-requires-2
+silent-requires-2 c κs = search needs
 
 accept-requires-4 : tie.Need-accept-requires-4
 accept-requires-4 c κs = search needs
 
 returns-7 : tie.Need-returns-7
-returns-7 c = simp (c .accept4 .ensures, c .before .still2 .ensures, ← c .before .before .before .before .is-off .ensures, c .before .before .if5 .left, c .before .before .before .if1 .left)
+returns-7 c = simp (c .accept4 .ensures, c .before .silent2 .ensures, ← c .before .before .before .before .hold-high .ensures, c .before .before .if5 .left, c .before .before .before .if1 .left)
 
 pub hold-to-spec : {M : Type 1} → statement M
 hold-to-spec =
     tie.close
     (tie.spec
-    is-off-requires
-    still-requires
+    hold-high-requires
+    silent-requires
     accept-requires
     returns
     refuse-requires
@@ -84,6 +84,6 @@ hold-to-spec =
     hold-fall-requires
     accept-requires-3
     returns-6
-    still-requires-2
+    silent-requires-2
     accept-requires-4
     returns-7)

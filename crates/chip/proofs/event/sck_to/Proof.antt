@@ -3,8 +3,8 @@ use borrow.Author.Needs.{needs}
 use Rattle.chip.proofs.event.sck_to.Statement.{statement}
 use Rattle.chip.proofs.event.sck_to.Tie as tie
 
-still-requires : tie.Need-still-requires
-still-requires c κs = search needs
+silent-requires : tie.Need-silent-requires
+silent-requires c κs = search needs
 
 sck-rise-requires : tie.Need-sck-rise-requires
 sck-rise-requires c κs = search needs
@@ -12,11 +12,11 @@ sck-rise-requires c κs = search needs
 sck-fall-requires : tie.Need-sck-fall-requires
 sck-fall-requires c κs = search needs
 
-still-requires-2 : tie.Need-still-requires-2
-still-requires-2 c κs = search needs
+silent-requires-2 : tie.Need-silent-requires-2
+silent-requires-2 c κs = search needs
 
 returns : tie.Need-returns
-returns c = simp (c .still .ensures, c .before .if2 .taken, c .before .before .if1 .taken)
+returns c = simp (c .silent .ensures, c .before .if2 .taken, c .before .before .if1 .taken)
 
 returns-2 : tie.Need-returns-2
 returns-2 c = simp (c .sck-rise .ensures, c .before .if2 .left, c .before .before .if1 .taken)
@@ -25,16 +25,16 @@ returns-3 : tie.Need-returns-3
 returns-3 c = simp (c .sck-fall .ensures, c .before .if3 .taken, c .before .before .if1 .left)
 
 returns-4 : tie.Need-returns-4
-returns-4 c = simp (c .still2 .ensures, c .before .if3 .left, c .before .before .if1 .left)
+returns-4 c = simp (c .silent2 .ensures, c .before .if3 .left, c .before .before .if1 .left)
 
 pub sck-to-spec : {M : Type 1} → statement M
 sck-to-spec =
     tie.close
     (tie.spec
-    still-requires
+    silent-requires
     sck-rise-requires
     sck-fall-requires
-    still-requires-2
+    silent-requires-2
     returns
     returns-2
     returns-3

@@ -1,7 +1,5 @@
 -- A part and kept bits that pass the checks fit a byte, so no cast loses anything.
 use mathlib.Core.Path.{sym, _∙_}
-use native.Mathlib.Nat.{lt-of-lt-of-le}
-use lib.Dec.{lit≤}
 use Rattle.chip.specs.PowerLaws.{power-part, power-kept}
 use borrow.Author.Tests.{ne-eqb}
 use Rattle.chip.specs.Power.{powerUp}
@@ -21,7 +19,7 @@ returns c = simp (c .at-rest .ensures, ← c .before .before .power-refusal .ens
 
 cast-at-rest : tie.Need-cast-at-rest
 cast-at-rest c =
-    record { fits = lt-of-lt-of-le (power-part _ _ _ (sym (c .before .power-refusal .ensures) ∙ c .if1 .left)) (lit≤ tt) }
+    record { fits = power-part _ _ _ (sym (c .before .power-refusal .ensures) ∙ c .if1 .left) }
 
 cast-at-rest-2 : tie.Need-cast-at-rest-2
 cast-at-rest-2 c =

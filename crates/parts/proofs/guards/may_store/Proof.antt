@@ -1,4 +1,5 @@
 -- The tests come in the order of the reasons, so the first that holds is the lowest.
+use native.Mathlib.Omega.{arith}
 use borrow.Author.Tests.{le-leb, lt-leb}
 use Rattle.parts.specs.Guards.{mayStore}
 use borrow.Author.Needs.{needs}
@@ -18,11 +19,11 @@ returns-2 c = simp (c .if2 .taken, c .before .before .if1 .left)
 
 returns-3 : tie.Need-returns-3
 unfolding mayStore
-returns-3 c = simp (← c .before .before .before .before .first-protected .ensures, le-leb _ _ (c .if3 .taken), c .before .if2 .left, c .before .before .before .if1 .left)
+returns-3 c = simp (← c .before .before .before .before .first-protected .ensures, le-leb (c .before .before .before .before .first-protected .result) (c .before .before .before .before .before .args .at) (omega (arith, c .if3 .taken)), c .before .if2 .left, c .before .before .before .if1 .left)
 
 returns-4 : tie.Need-returns-4
 unfolding mayStore
-returns-4 c = simp (← c .before .before .before .before .first-protected .ensures, lt-leb _ _ (c .if3 .left), c .before .if2 .left, c .before .before .before .if1 .left)
+returns-4 c = simp (← c .before .before .before .before .first-protected .ensures, lt-leb (c .before .before .before .before .first-protected .result) (c .before .before .before .before .before .args .at) (omega (arith, c .if3 .left)), c .before .if2 .left, c .before .before .before .if1 .left)
 
 pub may-store-spec : {M : Type 1} → statement M
 may-store-spec =

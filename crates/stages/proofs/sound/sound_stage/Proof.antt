@@ -1,4 +1,4 @@
--- Case by case; tests joined by & are the definition's conjunctions.
+-- Case by case: the bits, the address and the count each as the definition asks.
 use Rattle.stages.specs.Sound.{soundStage}
 use borrow.Author.Needs.{needs}
 use Rattle.stages.proofs.sound.sound_stage.Statement.{statement}
@@ -22,8 +22,11 @@ sound-shift-requires-2 c κs = search needs
 enum-known-stage-3 : tie.Need-enum-known-stage-3
 enum-known-stage-3 c = search needs
 
-widen-requires : tie.Need-widen-requires
-widen-requires c κs = search needs
+cast-result : tie.Need-cast-result
+cast-result c = search needs
+
+mul-result : tie.Need-mul-result
+mul-result c = search needs
 
 sound-shift-requires-3 : tie.Need-sound-shift-requires-3
 sound-shift-requires-3 c κs = search needs
@@ -69,7 +72,7 @@ returns-3 c = simp (c .sound-shift2 .ensures, c .before .before .before .before 
 
 returns-4 : tie.Need-returns-4
 unfolding soundStage
-returns-4 c = simp (c .sound-shift3 .ensures, c .before .before .widen .ensures, c .before .before .before .before .before .stage3 .given .1)
+returns-4 c = simp (c .sound-shift3 .ensures, c .before .before .before .before .before .stage3 .given .1)
 
 returns-5 : tie.Need-returns-5
 unfolding soundStage
@@ -101,7 +104,8 @@ sound-stage-spec =
     enum-known-stage-2
     sound-shift-requires-2
     enum-known-stage-3
-    widen-requires
+    cast-result
+    mul-result
     sound-shift-requires-3
     enum-known-stage-4
     sound-source-requires

@@ -1,19 +1,26 @@
--- The level of /CS shows whether a select is open.
+-- The level of /CS is kept.
 use Rattle.lines.specs.Edges.{holdFall}
 use borrow.Author.Needs.{needs}
 use Rattle.lines.proofs.state.State.hold_fall.Statement.{statement}
 use Rattle.lines.proofs.state.State.hold_fall.Tie as tie
 
-is-closed-requires : tie.Need-is-closed-requires
-is-closed-requires c κs = search needs
+cs-requires : tie.Need-cs-requires
+cs-requires c κs = search needs
+
+silent-requires : tie.Need-silent-requires
+silent-requires c κs = search needs
 
 returns : tie.Need-returns
 unfolding holdFall
-returns c = simp (← c .before .is-closed .ensures, c .if1 .taken)
+returns c = simp (c .silent .ensures, ← c .before .before .cs .ensures, c .before .if1 .taken)
+
+silent-requires-2 : tie.Need-silent-requires-2
+silent-requires-2 c κs = search needs
 
 returns-2 : tie.Need-returns-2
 unfolding holdFall
-returns-2 c = simp (← c .before .is-closed .ensures, c .if1 .left)
+returns-2 c = simp (c .silent2 .ensures, ← c .before .before .cs .ensures, c .before .if1 .left)
 
 pub hold-fall-spec : {M : Type 1} → statement M
-hold-fall-spec = tie.close (tie.spec is-closed-requires returns returns-2)
+hold-fall-spec =
+    tie.close (tie.spec cs-requires silent-requires returns silent-requires-2 returns-2)

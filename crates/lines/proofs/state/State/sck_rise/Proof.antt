@@ -1,22 +1,26 @@
--- Seen, the select takes the bit; in hold only the level moves.
+-- Seen, the stage takes a bit; in hold only the level moves.
 use Rattle.lines.specs.Edges.{sckRise}
 use borrow.Author.Needs.{needs}
 use Rattle.lines.proofs.state.State.sck_rise.Statement.{statement}
 use Rattle.lines.proofs.state.State.sck_rise.Tie as tie
 
-is-off-requires : tie.Need-is-off-requires
-is-off-requires c κs = search needs
+hold-high-requires : tie.Need-hold-high-requires
+hold-high-requires c κs = search needs
 
 rise-requires : tie.Need-rise-requires
 rise-requires c κs = search needs
 
 returns : tie.Need-returns
 unfolding sckRise
-returns c = simp (c .rise .ensures, ← c .before .before .is-off .ensures, c .before .if1 .taken)
+returns c = simp (c .rise .ensures, ← c .before .before .hold-high .ensures, c .before .if1 .taken)
+
+silent-requires : tie.Need-silent-requires
+silent-requires c κs = search needs
 
 returns-2 : tie.Need-returns-2
 unfolding sckRise
-returns-2 c = simp (← c .before .is-off .ensures, c .if1 .left)
+returns-2 c = simp (c .silent .ensures, ← c .before .before .hold-high .ensures, c .before .if1 .left)
 
 pub sck-rise-spec : {M : Type 1} → statement M
-sck-rise-spec = tie.close (tie.spec is-off-requires rise-requires returns returns-2)
+sck-rise-spec =
+    tie.close (tie.spec hold-high-requires rise-requires returns silent-requires returns-2)
