@@ -2,7 +2,7 @@
 -- and else the last stands after those of a tenth. Assumes nothing.
 use mathlib.Core.Path.{_≡_, refl, ap, _∙_}
 use mathlib.Core.Bool.{Bool, true, false}
-use mathlib.Core.List.{List, [], _∷_, _++_}
+use mathlib.Core.List.{[], _∷_}
 use Prim.Native.Nat.{ℕ, zero, suc, _+_, _-_, _*_, _/_, _%_, _^_, _≤_, _<_}
 use native.Mathlib.Nat.{div-lt-iff-lt-mul, le-div-iff-mul-le, mod-eq-of-lt, mod-lt, pow-suc, le-trans, pow-le-pow-right, mul-le-mul-right}
 use native.Mathlib.Numerals.{unary-clauses}

@@ -5,18 +5,19 @@ use mathlib.Core.List.{List, _++_}
 use lib.Dec.{eqb, leb, ltb}
 use lib.ListN.{take}
 use Rattle.report.specs.Text.{ascii, hex, hexes, decimal}
+use Rattle.report.specs.Record.{codeClocks, mostShown}
 use Rattle.report.specs.declared.record.Record.{Record}
 
 -- "op-code in hex, or "--" under eight clocks"
 unfoldable pub codeText : ℕ → ℕ → List ℕ
-codeText clocks code = cond (ltb clocks 8) (ascii "--") (hex code)
+codeText clocks code = cond (ltb clocks codeClocks) (ascii "--") (hex code)
 
 -- "whole bytes of SO .. in hex, or "-", at most the first 64 and then "+" if there are more". The list has the first
 -- of them, `whole` is how many there were.
 unfoldable pub shownText : List ℕ → ℕ → List ℕ
 shownText firsts whole =
     cond (eqb whole 0) (ascii "-")
-    (cond (leb whole 64) (hexes (take whole firsts))
+    (cond (leb whole mostShown) (hexes (take whole firsts))
     (hexes firsts ++ ascii "+"))
 
 -- "other numbers are decimal": a word and its number

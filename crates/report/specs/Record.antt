@@ -23,9 +23,13 @@ counted n = cond (ltb n 0xFFFFFFFFFFFFFFFF) (n + 1) n
 abbrev pub fresh : Record
 fresh = record { clocks = 0; code = 0; sample = noBits; shown = 0; stored = 0 }
 
--- "op-code .. or "--" under eight clocks": "The first eight bits are the op-code"
+-- "The first eight bits are the op-code": the clocks that it takes
+abbrev pub codeClocks : ℕ
+codeClocks = 8
+
+-- "op-code .. or "--" under eight clocks"
 unfoldable pub codeAfter : ℕ → ℕ → Bool → ℕ
-codeAfter clocks code si = cond (leb 8 clocks) code (shifted code si)
+codeAfter clocks code si = cond (leb codeClocks clocks) code (shifted code si)
 
 -- "SO sampled before each seen rise while driven"
 unfoldable pub sampled : Shift → Level → Taken
@@ -46,8 +50,11 @@ risen r si so =
     withSample r (counted (r .clocks)) (codeAfter (r .clocks) (r .code) si) (sampled (r .sample) so)
 
 -- "at most the first 64"
+abbrev pub mostShown : ℕ
+mostShown = 64
+
 abbrev pub keptAt : List ℕ → ℕ → ℕ → List ℕ
-keptAt xs at byte = cond (ltb at 64) (set xs at byte) xs
+keptAt xs at byte = cond (ltb at mostShown) (set xs at byte) xs
 
 abbrev pub withByte : List ℕ → ℕ → Taken → List ℕ
 withByte xs at (Part bits) = xs

@@ -6,11 +6,13 @@ use Prim.Native.String.{String, [] as none, _∷_ as _then_}
 use mathlib.Core.Bool.{cond}
 use mathlib.Core.List.{List, [], _∷_, _++_}
 use lib.Dec.{ltb}
-use lib.ListN.{getD}
+use lib.ListN.{length, getD}
+use lib.Seq.{sets}
 
--- the text so far, a piece, and the text with the piece behind it
-pub record Adds (before piece after : List ℕ) : Type 0 where
-  pub adds : after ≡ before ++ piece
+-- a text put into a buffer from a place on: each byte of the buffer after it, and the place behind the text
+pub record Puts (before : List ℕ) (at : ℕ) (text after : List ℕ) (next : ℕ) : Type 0 where
+  pub bytes : after ≡ sets before at text
+  pub ends : next ≡ at + length text
 
 -- the bytes of a text
 abbrev pub ascii : String → List ℕ

@@ -1,9 +1,12 @@
-// The lines of the report.
+// The lines of the report. Each is put at the front of a lent buffer, whose rest stays as it was; the
+// answer is its length.
 ghost use mathlib.Core.Path.{_≡_};
+ghost use mathlib.Core.List.{_++_};
 ghost use Prim.Native.Nat.{_+_, _≤_};
-ghost use lib.ListN.{length, take};
+ghost use lib.ListN.{length, drop};
 ghost use Rattle.io.specs.Counts.{Counts};
-ghost use Rattle.report.specs.Text.{Adds};
+ghost use Rattle.report.specs.Record.{mostShown};
+ghost use Rattle.report.specs.Text.{Puts};
 ghost use Rattle.report.specs.Lines.{codeText, shownText, numbered, partLine, countsText, selectLine, endLine};
 use crate::record::Record;
 use crate::text::put;
@@ -15,7 +18,7 @@ use crate::text::put_hexes;
 fn put_code(out: &mut [u8; 256], at: usize, clocks: u64, code: u8) -> usize
     requires { ⌜ at + 2 ≤ 256 ⌝ }
     ensures { λ r. ⌜ r ≡ at + 2 ⌝ }
-    ensures { λ r. ⌜ Adds (take at (now (out .entry))) (codeText clocks code) (take r (now (out .exit))) ⌝ }
+    ensures { λ r. ⌜ Puts (now (out .entry)) at (codeText clocks code) (now (out .exit)) r ⌝ }
 {
     if clocks < 8 {
         return put(out, at, b"--");
@@ -26,9 +29,9 @@ fn put_code(out: &mut [u8; 256], at: usize, clocks: u64, code: u8) -> usize
 // The whole bytes of SO, the first 64 of which the buffer has.
 fn put_shown(out: &mut [u8; 256], at: usize, shown: &[u8], whole: u64) -> usize
     requires { ⌜ at + 129 ≤ 256 ⌝ }
-    requires { ⌜ length (now shown) ≡ 64 ⌝ }
+    requires { ⌜ length (now shown) ≡ mostShown ⌝ }
     ensures { λ r. ⌜ r ≤ at + 129 ⌝ }
-    ensures { λ r. ⌜ Adds (take at (now (out .entry))) (shownText (now (shown .entry)) whole) (take r (now (out .exit))) ⌝ }
+    ensures { λ r. ⌜ Puts (now (out .entry)) at (shownText (now (shown .entry)) whole) (now (out .exit)) r ⌝ }
 {
     if whole == 0 {
         return put(out, at, b"-");
@@ -45,7 +48,7 @@ fn put_shown(out: &mut [u8; 256], at: usize, shown: &[u8], whole: u64) -> usize
 fn put_numbered(out: &mut [u8; 256], at: usize, word: &[u8], n: u64) -> usize
     requires { ⌜ at + length (now word) + 20 ≤ 256 ⌝ }
     ensures { λ r. ⌜ r ≤ at + length (now (word .entry)) + 20 ⌝ }
-    ensures { λ r. ⌜ Adds (take at (now (out .entry))) (numbered (now (word .entry)) n) (take r (now (out .exit))) ⌝ }
+    ensures { λ r. ⌜ Puts (now (out .entry)) at (numbered (now (word .entry)) n) (now (out .exit)) r ⌝ }
 {
     let next = put(out, at, word);
     put_decimal(out, next, n)
@@ -54,7 +57,8 @@ fn put_numbered(out: &mut [u8; 256], at: usize, word: &[u8], n: u64) -> usize
 // "Line 1: part, size, kept bits in hex".
 pub fn part_line(out: &mut [u8; 256], part: u64, size: u64, kept: u8) -> usize
     ensures { λ r. ⌜ Counts r (now (out .exit)) ⌝ }
-    ensures { λ r. ⌜ take r (now (out .exit)) ≡ partLine part size kept ⌝ }
+    ensures { λ r. ⌜ r ≡ length (partLine part size kept) ⌝ }
+    ensures { λ r. ⌜ now (out .exit) ≡ partLine part size kept ++ drop r (now (out .entry)) ⌝ }
 {
     let at = put_numbered(out, 0, b"part ", part);
     let at = put_numbered(out, at, b" bytes ", size);
@@ -67,7 +71,7 @@ pub fn part_line(out: &mut [u8; 256], part: u64, size: u64, kept: u8) -> usize
 fn put_counts(out: &mut [u8; 256], at: usize, told: Record) -> usize
     requires { ⌜ at + 62 ≤ 256 ⌝ }
     ensures { λ r. ⌜ r ≤ at + 62 ⌝ }
-    ensures { λ r. ⌜ Adds (take at (now (out .entry))) (countsText told) (take r (now (out .exit))) ⌝ }
+    ensures { λ r. ⌜ Puts (now (out .entry)) at (countsText told) (now (out .exit)) r ⌝ }
 {
     let at = put(out, at, b" op ");
     let at = put_code(out, at, told.clocks, told.code);
@@ -78,7 +82,8 @@ fn put_counts(out: &mut [u8; 256], at: usize, told: Record) -> usize
 // A select's line, by its number, its record and the first bytes of SO.
 pub fn select_line(out: &mut [u8; 256], number: u64, told: Record, shown: &[u8; 64]) -> usize
     ensures { λ r. ⌜ Counts r (now (out .exit)) ⌝ }
-    ensures { λ r. ⌜ take r (now (out .exit)) ≡ selectLine number told (now (shown .entry)) ⌝ }
+    ensures { λ r. ⌜ r ≡ length (selectLine number told (now (shown .entry))) ⌝ }
+    ensures { λ r. ⌜ now (out .exit) ≡ selectLine number told (now (shown .entry)) ++ drop r (now (out .entry)) ⌝ }
 {
     let at = put_numbered(out, 0, b"sel ", number);
     let at = put(out, at, b" so ");
@@ -90,7 +95,8 @@ pub fn select_line(out: &mut [u8; 256], number: u64, told: Record, shown: &[u8; 
 // "Last line: kept bits in hex (00 before power-up), latch (0 before power-up), refusal."
 pub fn end_line(out: &mut [u8; 256], kept: u8, latch: bool, refusal: u8) -> usize
     ensures { λ r. ⌜ Counts r (now (out .exit)) ⌝ }
-    ensures { λ r. ⌜ take r (now (out .exit)) ≡ endLine kept latch refusal ⌝ }
+    ensures { λ r. ⌜ r ≡ length (endLine kept latch refusal) ⌝ }
+    ensures { λ r. ⌜ now (out .exit) ≡ endLine kept latch refusal ++ drop r (now (out .entry)) ⌝ }
 {
     let at = put(out, 0, b"end kept ");
     let at = put_hex(out, at, kept);

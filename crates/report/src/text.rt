@@ -1,9 +1,9 @@
-// Pieces of a line, put one after the other into a lent buffer: each call puts its text at a place and
-// answers the place after it.
+// Pieces of a line, put one after the other into a lent buffer: each call puts its text at a place,
+// leaves the rest of the buffer alone and answers the place after the text.
 ghost use mathlib.Core.Path.{_≡_};
 ghost use Prim.Native.Nat.{_+_, _*_, _≤_, _<_};
-ghost use lib.ListN.{getD, length, take};
-ghost use Rattle.report.specs.Text.{Adds, capitals, hex, hexes, decimal};
+ghost use lib.ListN.{getD, length};
+ghost use Rattle.report.specs.Text.{Puts, capitals, hex, hexes, decimal};
 
 // "Hex is two capital digits a byte".
 const CAPITALS: [u8; 16] = *b"0123456789ABCDEF";
@@ -16,10 +16,10 @@ fn capital(n: usize) -> u8
     CAPITALS[n]
 }
 
+// The bytes of a text.
 pub(crate) fn put(out: &mut [u8], at: usize, text: &[u8]) -> usize
     requires { ⌜ at + length (now text) ≤ length (now out) ⌝ }
-    ensures { λ r. ⌜ r ≡ at + length (now (text .entry)) ⌝ }
-    ensures { λ r. ⌜ Adds (take at (now (out .entry))) (now (text .entry)) (take r (now (out .exit))) ⌝ }
+    ensures { λ r. ⌜ Puts (now (out .entry)) at (now (text .entry)) (now (out .exit)) r ⌝ }
 {
     let mut i = 0;
     while i < text.len() {
@@ -33,7 +33,7 @@ pub(crate) fn put(out: &mut [u8], at: usize, text: &[u8]) -> usize
 pub(crate) fn put_hex(out: &mut [u8; 256], at: usize, byte: u8) -> usize
     requires { ⌜ at + 2 ≤ 256 ⌝ }
     ensures { λ r. ⌜ r ≡ at + 2 ⌝ }
-    ensures { λ r. ⌜ Adds (take at (now (out .entry))) (hex byte) (take r (now (out .exit))) ⌝ }
+    ensures { λ r. ⌜ Puts (now (out .entry)) at (hex byte) (now (out .exit)) r ⌝ }
 {
     let high = capital((byte >> 4) as usize);
     let low = capital((byte & 0x0F) as usize);
@@ -44,7 +44,7 @@ pub(crate) fn put_hex(out: &mut [u8; 256], at: usize, byte: u8) -> usize
 pub(crate) fn put_hexes(out: &mut [u8; 256], at: usize, bytes: &[u8]) -> usize
     requires { ⌜ at + 2 * length (now bytes) ≤ 256 ⌝ }
     ensures { λ r. ⌜ r ≡ at + 2 * length (now (bytes .entry)) ⌝ }
-    ensures { λ r. ⌜ Adds (take at (now (out .entry))) (hexes (now (bytes .entry))) (take r (now (out .exit))) ⌝ }
+    ensures { λ r. ⌜ Puts (now (out .entry)) at (hexes (now (bytes .entry))) (now (out .exit)) r ⌝ }
 {
     let mut next = at;
     let mut i = 0;
@@ -59,7 +59,7 @@ pub(crate) fn put_hexes(out: &mut [u8; 256], at: usize, bytes: &[u8]) -> usize
 pub(crate) fn put_decimal(out: &mut [u8; 256], at: usize, n: u64) -> usize
     requires { ⌜ at + 20 ≤ 256 ⌝ }
     ensures { λ r. ⌜ r ≤ at + 20 ⌝ }
-    ensures { λ r. ⌜ Adds (take at (now (out .entry))) (decimal n) (take r (now (out .exit))) ⌝ }
+    ensures { λ r. ⌜ Puts (now (out .entry)) at (decimal n) (now (out .exit)) r ⌝ }
 {
     let mut digits = [0u8; 20];
     let k = io::decimal(n, &mut digits);

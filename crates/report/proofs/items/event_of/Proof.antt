@@ -1,7 +1,8 @@
 -- Past its events an item has none; an event has itself alone; a data byte has the event of its place.
 use mathlib.Core.Path.{sym}
 use lib.ListN.{List·getD-eq-default}
-use Rattle.report.specs.Items.{clocked, itemEvents}
+use Rattle.report.specs.Items.{itemEvents}
+use Rattle.stages.specs.Clocked.{clocked}
 use Rattle.report.proofs.Pulses.{sole}
 use borrow.Author.Tests.{le-ltb}
 use borrow.Author.Needs.{needs}

@@ -1,5 +1,6 @@
 -- One event, or eight times three.
-use Rattle.report.specs.Items.{clocked, itemEvents}
+use Rattle.report.specs.Items.{itemEvents}
+use Rattle.stages.specs.Clocked.{clocked}
 use borrow.Author.Tests.{le-ltb, lt-ltb}
 use Rattle.report.proofs.items.events_of.Statement.{statement}
 use Rattle.report.proofs.items.events_of.Tie as tie

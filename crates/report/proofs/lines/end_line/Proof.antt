@@ -1,13 +1,10 @@
 -- Each piece adds its text after the one before, and all of it fits; the latch is a number.
 use mathlib.Core.Bool.{Bool, true, false, cond}
-use mathlib.Core.Path.{_≡_, refl, sym}
+use mathlib.Core.Path.{_≡_, refl}
 use mir.Val.{boolByte}
-use Prim.Native.Nat.{_≤_}
 use native.Mathlib.Omega.{arith}
-use lib.ListN.{length}
-use lib.Seq.{length-take-le}
 use Rattle.report.specs.Lines.{endLine}
-use Rattle.report.proofs.Pieces.{on, line}
+use Rattle.report.proofs.Pieces.{_then_, line}
 use borrow.Author.Needs.{needs}
 use Rattle.report.proofs.lines.end_line.Statement.{statement}
 use Rattle.report.proofs.lines.end_line.Tie as tie
@@ -50,10 +47,13 @@ digit false = refl
 returns : tie.Need-returns
 unfolding endLine
 returns c =
-    let within : c .put2 .result ≤ length (c .put2 .last .0) = omega (arith, c .put2 .kept .0, c .before .before .put-arg3 .given .0 .1) in (
-      (within, sym (length-take-le _ _ within)),
-      rw (digit _) at (line (on (on (on (on (c .before .before .before .before .before .before .before .before .before .before .before .put .ensures .1) (c .before .before .before .before .before .before .before .before .before .put-hex .ensures .1)) (c .before .before .before .before .before .before .put-numbered .ensures .1)) (c .before .before .before .put-numbered2 .ensures .1)) (c .put2 .ensures .1))),
-    )
+    line (omega arith)
+    (rw (digit _) at
+    (c .before .before .before .before .before .before .before .before .before .before .before .put .ensures
+    then c .before .before .before .before .before .before .before .before .before .put-hex .ensures .1
+    then c .before .before .before .before .before .before .put-numbered .ensures .1
+    then c .before .before .before .put-numbered2 .ensures .1
+    then c .put2 .ensures))
 
 pub end-line-spec : {M : Type 1} → statement M
 end-line-spec =

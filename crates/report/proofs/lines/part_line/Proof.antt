@@ -1,11 +1,7 @@
 -- Each piece adds its text after the one before, and all of it fits.
-use mathlib.Core.Path.{sym}
-use Prim.Native.Nat.{_≤_}
 use native.Mathlib.Omega.{arith}
-use lib.ListN.{length}
-use lib.Seq.{length-take-le}
 use Rattle.report.specs.Lines.{partLine}
-use Rattle.report.proofs.Pieces.{on, line}
+use Rattle.report.proofs.Pieces.{_then_, line}
 use borrow.Author.Needs.{needs}
 use Rattle.report.proofs.lines.part_line.Statement.{statement}
 use Rattle.report.proofs.lines.part_line.Tie as tie
@@ -40,10 +36,12 @@ put-requires-2 c κs = search needs
 returns : tie.Need-returns
 unfolding partLine
 returns c =
-    let within : c .put2 .result ≤ length (c .put2 .last .0) = omega (arith, c .put2 .kept .0, c .before .before .put-arg3 .given .0 .1) in (
-      (within, sym (length-take-le _ _ within)),
-      line (on (on (on (on (c .before .before .before .before .before .before .before .before .before .before .before .put-numbered .ensures .1) (c .before .before .before .before .before .before .before .before .put-numbered2 .ensures .1)) (c .before .before .before .before .before .put .ensures .1)) (c .before .before .before .put-hex .ensures .1)) (c .put2 .ensures .1)),
-    )
+    line (omega arith)
+    (c .before .before .before .before .before .before .before .before .before .before .before .put-numbered .ensures .1
+    then c .before .before .before .before .before .before .before .before .put-numbered2 .ensures .1
+    then c .before .before .before .before .before .put .ensures
+    then c .before .before .before .put-hex .ensures .1
+    then c .put2 .ensures)
 
 pub part-line-spec : {M : Type 1} → statement M
 part-line-spec =

@@ -13,7 +13,7 @@ put-requires c κs = search needs
 
 returns : tie.Need-returns
 unfolding codeText
-returns c = (c .put .ensures .0, rw (lt-ltb _ _ (c .before .before .before .if1 .taken)) (c .put .ensures .1))
+returns c = (c .put .ensures .ends, rw (lt-ltb _ _ (c .before .before .before .if1 .taken)) (c .put .ensures))
 
 put-hex-requires : tie.Need-put-hex-requires
 put-hex-requires c κs = search needs

@@ -1,7 +1,7 @@
 -- Each piece adds its text after the one before, and all of it fits.
 use native.Mathlib.Omega.{arith}
 use Rattle.report.specs.Lines.{countsText}
-use Rattle.report.proofs.Pieces.{on}
+use Rattle.report.proofs.Pieces.{_then_}
 use borrow.Author.Needs.{needs}
 use Rattle.report.proofs.lines.put_counts.Statement.{statement}
 use Rattle.report.proofs.lines.put_counts.Tie as tie
@@ -29,7 +29,13 @@ put-numbered-requires-2 c κs = search needs
 
 returns : tie.Need-returns
 unfolding countsText
-returns c = (omega arith, on (on (on (c .before .before .before .before .before .before .before .before .put .ensures .1) (c .before .before .before .before .before .before .put-code .ensures .1)) (c .before .before .before .put-numbered .ensures .1)) (c .put-numbered2 .ensures .1))
+returns c = (
+  omega arith,
+  c .before .before .before .before .before .before .before .before .put .ensures
+      then c .before .before .before .before .before .before .put-code .ensures .1
+      then c .before .before .before .put-numbered .ensures .1
+      then c .put-numbered2 .ensures .1,
+)
 
 pub put-counts-spec : {M : Type 1} → statement M
 put-counts-spec =

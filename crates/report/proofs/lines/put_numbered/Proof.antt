@@ -1,6 +1,6 @@
 -- The word, then the number behind it.
 use native.Mathlib.Omega.{arith}
-use Rattle.report.proofs.Pieces.{on}
+use Rattle.report.proofs.Pieces.{_then_}
 use borrow.Author.Needs.{needs}
 use Rattle.report.proofs.lines.put_numbered.Statement.{statement}
 use Rattle.report.proofs.lines.put_numbered.Tie as tie
@@ -12,7 +12,7 @@ put-decimal-requires : tie.Need-put-decimal-requires
 put-decimal-requires c κs = search needs
 
 returns : tie.Need-returns
-returns c = (omega arith, on (c .before .before .put .ensures .1) (c .put-decimal .ensures .1))
+returns c = (omega arith, c .before .before .put .ensures then c .put-decimal .ensures .1)
 
 pub put-numbered-spec : {M : Type 1} → statement M
 put-numbered-spec = tie.close (tie.spec put-requires put-decimal-requires returns)

@@ -1,11 +1,10 @@
--- The digits, as many as the number has, after what stood there.
-use mathlib.Core.Path.{ap, _∙_}
-use mathlib.Core.List.{List, _++_}
-use Prim.Native.Nat.{ℕ}
+-- The digits that the library writes, as many as the number has.
+use mathlib.Core.Path.{_∙_}
+use Prim.Native.Nat.{_≤_}
 use native.Mathlib.Omega.{arith}
-use lib.ListN.{take}
 use Rattle.report.specs.Text.{decimal}
 use Rattle.report.proofs.Decimals.{decimal-is, short}
+use Rattle.report.proofs.Pieces.{same}
 use borrow.Author.Needs.{needs}
 use Rattle.report.proofs.text.put_decimal.Statement.{statement}
 use Rattle.report.proofs.text.put_decimal.Tie as tie
@@ -20,19 +19,15 @@ slice-aggregate-put : tie.Need-slice-aggregate-put
 slice-aggregate-put c = search needs
 
 put-requires : tie.Need-put-requires
-put-requires c κs = omega (arith, c .before .put-arg .given .0 .1, short (c .before .before .decimal .result) _ (c .before .before .before .before .fits .n .fits) (c .before .before .decimal .ensures .1 .0), c .before .before .decimal .ensures .0 .1)
+put-requires c κs = omega (arith, short (c .before .before .decimal .result) _ (c .before .before .before .before .fits .n .fits) (c .before .before .decimal .ensures .1 .0))
 
 returns : tie.Need-returns
 unfolding decimal
-returns c = (
-  omega (arith, c .put .ensures .0, short (c .before .before .before .decimal .result) _ (c .before .before .before .before .before .fits .n .fits) (c .before .before .before .decimal .ensures .1 .0), c .before .before .before .decimal .ensures .0 .1),
-  record {
-    adds =
-        c .put .ensures .1 .adds
-        ∙ ap (λ (l : List ℕ). take (c .before .before .before .before .before .args .at) (c .before .before .before .before .before .args .out .now) ++ l)
-        (c .before .before .before .decimal .ensures .1 .1 ∙ decimal-is _ 20 _ (c .before .before .before .decimal .ensures .1 .0) (short (c .before .before .before .decimal .result) _ (c .before .before .before .before .before .fits .n .fits) (c .before .before .before .decimal .ensures .1 .0)));
-  },
-)
+returns c =
+    let few : c .before .before .before .decimal .result ≤ 20 = short _ _ (c .before .before .before .before .before .fits .n .fits) (c .before .before .before .decimal .ensures .1 .0) in (
+      omega arith,
+      same (c .before .before .before .decimal .ensures .1 .1 ∙ decimal-is _ 20 _ (c .before .before .before .decimal .ensures .1 .0) few) (c .put .ensures),
+    )
 
 pub put-decimal-spec : {M : Type 1} → statement M
 put-decimal-spec =

@@ -1,8 +1,8 @@
 -- The upper four bits, then the lower four, each a digit of the table.
-use mathlib.Core.Path.{_∙_}
 use native.Mathlib.Omega.{arith}
 use lib.Bits.{and-le-r, and-mask}
 use Rattle.report.specs.Text.{hex}
+use Rattle.report.proofs.Pieces.{same}
 use borrow.Author.Needs.{needs}
 use Rattle.report.proofs.text.put_hex.Statement.{statement}
 use Rattle.report.proofs.text.put_hex.Tie as tie
@@ -28,8 +28,8 @@ put-requires c κs = search needs
 returns : tie.Need-returns
 unfolding hex
 returns c = (
-  c .put .ensures .0,
-  record { adds = c .put .ensures .1 .adds ∙ simp (c .before .before .before .capital2 .ensures, c .before .before .before .before .capital .ensures, and-mask (c .before .before .before .before .before .args .byte) 4) },
+  omega arith,
+  same (simp (c .before .before .before .capital2 .ensures, c .before .before .before .before .capital .ensures, and-mask (c .before .before .before .before .before .args .byte) 4)) (c .put .ensures),
 )
 
 pub put-hex-spec : {M : Type 1} → statement M

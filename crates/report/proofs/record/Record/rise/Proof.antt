@@ -30,11 +30,17 @@ count-requires-2 c κs = search needs
 
 returns : tie.Need-returns
 unfolding risen shownAfter
-returns c = (simp (← c .before .before .before .sample .ensures, ← c .before .before .before .before .code-after .ensures, ← c .before .before .before .before .before .count .ensures, c .before .sample2 .given .1), simp (← c .before .before .before .sample .ensures, ← c .before .before .before .before .code-after .ensures, ← c .before .before .before .before .before .count .ensures, c .before .sample2 .given .1))
+returns c = (
+  simp (← c .before .before .before .sample .ensures, ← c .before .before .before .before .code-after .ensures, ← c .before .before .before .before .before .count .ensures, c .before .sample2 .given .1),
+  simp (← c .before .before .before .sample .ensures, c .before .sample2 .given .1),
+)
 
 returns-2 : tie.Need-returns-2
 unfolding risen shownAfter
-returns-2 c = (simp (c .count2 .ensures, c .before .no-bits .ensures, c .before .before .keep .ensures, ← c .before .before .before .before .before .before .before .sample .ensures, ← c .before .before .before .before .before .before .before .before .code-after .ensures, ← c .before .before .before .before .before .before .before .before .before .count .ensures, c .before .before .before .before .before .byte .given .1), simp (c .count2 .ensures, c .before .no-bits .ensures, c .before .before .keep .ensures, ← c .before .before .before .before .before .before .before .sample .ensures, ← c .before .before .before .before .before .before .before .before .code-after .ensures, ← c .before .before .before .before .before .before .before .before .before .count .ensures, c .before .before .before .before .before .byte .given .1))
+returns-2 c = (
+  simp (c .count2 .ensures, c .before .no-bits .ensures, ← c .before .before .before .before .before .before .before .sample .ensures, ← c .before .before .before .before .before .before .before .before .code-after .ensures, ← c .before .before .before .before .before .before .before .before .before .count .ensures, c .before .before .before .before .before .byte .given .1),
+  simp (c .before .before .keep .ensures, ← c .before .before .before .before .before .before .before .sample .ensures, c .before .before .before .before .before .byte .given .1),
+)
 
 pub rise-spec : {M : Type 1} → statement M
 rise-spec =
