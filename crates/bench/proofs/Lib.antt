@@ -1,1 +1,4 @@
+pub mod Events
+pub mod Items
 pub mod Reading
+pub mod Runs

@@ -7,7 +7,7 @@ use Rattle.trace.specs.Answers.{readTold}
 use Rattle.trace.specs.Number.{reading}
 use Rattle.trace.specs.declared.answer.Read.{Read}
 use Rattle.trace.specs.declared.answer.Read.the-variants.{Number}
-use Rattle.trace.proofs.Laws.{forward}
+use Rattle.trace.specs.NumberLaws.{forward}
 
 pub moves : (s : List ℕ) (at n next : ℕ) (found : Read) → readTold found ≡ reading s at → found ≡ Number n next
     → (at < next) × (next ≤ length s)

@@ -1,2 +1,4 @@
 pub mod Head
 pub mod Stand
+pub mod Run
+pub mod Examples

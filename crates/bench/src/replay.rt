@@ -1,5 +1,7 @@
 // The run: from a trace to the report on standard output.
-ghost use Prim.Native.Nat.{_≤_};
+ghost use mathlib.Core.Path.{_≡_};
+ghost use Rattle.chip.specs.Power.{filled};
+ghost use Rattle.bench.specs.Run.{benchOf, going, afterEvent, afterItem, ranFrom, started, ran, replayed};
 use crate::head::Head;
 use crate::head::head_of;
 use crate::stand::Stand;
@@ -48,8 +50,21 @@ fn tell_end(chip: State, refusal: u8) {
     io::write_all(STDOUT_FILENO, &line[..n]);
 }
 
+// Prints what is left to tell at the end: the line of a select left open, and the last line.
+fn tell_last(turn: Turn, shown: &[u8; 64]) {
+    let stand = turn.stand;
+    let chip = stand.chip;
+    if is_open(chip) {
+        tell_select(stand, shown);
+    }
+    tell_end(chip, turn.refusal);
+}
+
 // One event. A select that it closes has its line printed.
-fn take_event(stand: Stand, array: &mut [u8], shown: &mut [u8; 64], code: u64) -> Turn {
+fn take_event(stand: Stand, array: &mut [u8], shown: &mut [u8; 64], code: u64) -> Turn
+    ensures { λ r. ⌜ benchOf r (now (array .exit)) (now (shown .exit))
+        ≡ afterEvent (going stand (now (array .entry)) (now (shown .entry))) code ⌝ }
+{
     let chip = stand.chip;
     let answer = event(chip, array, code);
     if answer.refusal != 0 {
@@ -70,7 +85,10 @@ fn take_event(stand: Stand, array: &mut [u8], shown: &mut [u8; 64], code: u64) -
 }
 
 // One item: its events, up to the first that is refused.
-fn take_item(stand: Stand, array: &mut [u8], shown: &mut [u8; 64], item: u64) -> Turn {
+fn take_item(stand: Stand, array: &mut [u8], shown: &mut [u8; 64], item: u64) -> Turn
+    ensures { λ r. ⌜ benchOf r (now (array .exit)) (now (shown .exit))
+        ≡ afterItem (going stand (now (array .entry)) (now (shown .entry))) item ⌝ }
+{
     let events = events_of(item);
     let mut turn = Turn { refusal: 0, stand };
     let mut k = 0;
@@ -85,13 +103,10 @@ fn take_item(stand: Stand, array: &mut [u8], shown: &mut [u8; 64], item: u64) ->
 }
 
 // The items from `at` on, up to the end or the first refusal.
-fn take_items(
-    trace: &[u8],
-    at: usize,
-    stand: Stand,
-    array: &mut [u8],
-    shown: &mut [u8; 64],
-) -> Turn {
+fn take_items(trace: &[u8], at: usize, stand: Stand, array: &mut [u8], shown: &mut [u8; 64]) -> Turn
+    ensures { λ r. ⌜ benchOf r (now (array .exit)) (now (shown .exit))
+        ≡ ranFrom (now (trace .entry)) at (going stand (now (array .entry)) (now (shown .entry))) ⌝ }
+{
     let mut turn = Turn { refusal: 0, stand };
     let mut place = at;
     while turn.refusal == 0 {
@@ -112,36 +127,57 @@ fn take_items(
     turn
 }
 
-// From power-up on, with an array of the part's size.
-fn run(trace: &[u8], lead: Head, array: &mut [u8]) {
+// Power-up, with a fresh array.
+fn start(lead: Head, array: &mut [u8]) -> Turn
+    ensures { λ r. ⌜ r ≡ started lead (now (array .entry)) ⌝ }
+    ensures { λ _. ⌜ now (array .exit) ≡ filled (lead .part) (now (array .entry)) ⌝ }
+{
     fill(lead.part, array);
     let powered = power_up(lead.part, lead.kept, array);
     let chip = powered.state;
-    if powered.refusal != 0 {
-        tell_end(chip, powered.refusal);
-        return;
+    Turn {
+        refusal: powered.refusal,
+        stand: Stand::new(chip),
     }
-    tell_part(lead.part, array.len() as u64, chip.kept);
-    let mut shown = [0u8; 64];
-    let turn = take_items(trace, lead.items, Stand::new(chip), array, &mut shown);
+}
+
+// From power-up on, with an array of the part's size. Line 1 is printed where power-up is accepted.
+fn run(trace: &[u8], lead: Head, array: &mut [u8], shown: &mut [u8; 64]) -> Turn
+    ensures { λ r. ⌜ benchOf r (now (array .exit)) (now (shown .exit))
+        ≡ ran (now (trace .entry)) lead (now (array .entry)) (now (shown .entry)) ⌝ }
+{
+    let turn = start(lead, array);
+    if turn.refusal != 0 {
+        return turn;
+    }
     let stand = turn.stand;
-    let last = stand.chip;
-    if is_open(last) {
-        tell_select(stand, &shown);
+    let chip = stand.chip;
+    tell_part(lead.part, array.len() as u64, chip.kept);
+    take_items(trace, lead.items, stand, array, shown)
+}
+
+// The whole run, but for what is left to tell at its end.
+fn run_whole(trace: &[u8], shown: &mut [u8; 64]) -> Turn
+    ensures { λ r. ⌜ r ≡ replayed (now (trace .entry)) (now (shown .entry)) .turn ⌝ }
+    ensures { λ _. ⌜ now (shown .exit) ≡ replayed (now (trace .entry)) (now (shown .entry)) .shown ⌝ }
+{
+    let lead = head_of(trace);
+    if lead.refusal != 0 {
+        return Turn {
+            refusal: lead.refusal,
+            stand: Stand::new(State::at_rest(1, 0, false)),
+        };
     }
-    tell_end(last, turn.refusal);
+    let mut array = [0u8; LARGEST];
+    let size = figure_of(lead.part).size;
+    run(trace, lead, &mut array[..size], shown)
 }
 
 // Prints the report of a trace.
 pub fn replay(trace: &[u8]) {
-    let lead = head_of(trace);
-    if lead.refusal != 0 {
-        tell_end(State::at_rest(1, 0, false), lead.refusal);
-        return;
-    }
-    let mut array = [0u8; LARGEST];
-    let size = figure_of(lead.part).size;
-    run(trace, lead, &mut array[..size]);
+    let mut shown = [0u8; 64];
+    let turn = run_whole(trace, &mut shown);
+    tell_last(turn, &shown);
 }
 
 // "It reads a trace from standard input, up to 32,768 bytes, as if the input ended there."

@@ -1,62 +1,39 @@
--- A size fits the number that is printed; the array keeps its length.
+-- A start that is refused is the whole run; else the items lead on from it.
 use mathlib.Core.Path.{_∙_}
+use Rattle.bench.proofs.Runs.{ran-not, ran-on}
 use borrow.Author.Needs.{needs}
 use Rattle.bench.proofs.replay.run.Statement.{statement}
 use Rattle.bench.proofs.replay.run.Tie as tie
 
-fill-requires : tie.Need-fill-requires
-fill-requires c κs = search needs
-
-power-up-requires : tie.Need-power-up-requires
-power-up-requires c κs = search needs
-
-tell-end-requires : tie.Need-tell-end-requires
-tell-end-requires c κs = search needs
+start-requires : tie.Need-start-requires
+start-requires c κs = search needs
 
 same-length : tie.Need-same-length
 same-length c = search needs
 
 returns : tie.Need-returns
-returns c = search needs
+returns c = ran-not _ _ _ _ _ _ (c .before .before .before .before .start .ensures .0) (c .before .before .before .before .start .ensures .1) (c .if1 .taken)
 
 tell-part-requires : tie.Need-tell-part-requires
 tell-part-requires c κs = search needs
 
-new-requires : tie.Need-new-requires
-new-requires c κs = search needs
-
 take-items-requires : tie.Need-take-items-requires
 take-items-requires c κs = search needs
 
-is-open-requires : tie.Need-is-open-requires
-is-open-requires c κs = search needs
-
-tell-select-requires : tie.Need-tell-select-requires
-tell-select-requires c κs = search needs
-
-tell-end-requires-2 : tie.Need-tell-end-requires-2
-tell-end-requires-2 c κs = search needs
-
 same-length-2 : tie.Need-same-length-2
-same-length-2 c = c .before .before .before .before .before .before .before .take-items .kept .1 .1 .1 .0 ∙ c .before .before .before .before .before .before .before .before .before .before .before .before .before .before .before .before .before .before .before .fill .kept .1 .0
+same-length-2 c = search needs
 
 returns-2 : tie.Need-returns-2
-returns-2 c = search needs
+returns-2 c = c .before .before .take-items .ensures ∙ ran-on _ _ _ _ _ _ (c .before .before .before .before .before .before .before .before .before .before .before .before .start .ensures .0) (c .before .before .before .before .before .before .before .before .before .before .before .before .start .ensures .1) (c .before .before .before .before .before .before .before .before .if1 .left)
 
 pub run-spec : {M : Type 1} → statement M
 run-spec =
     tie.close
     (tie.spec
-    fill-requires
-    power-up-requires
-    tell-end-requires
+    start-requires
     same-length
     returns
     tell-part-requires
-    new-requires
     take-items-requires
-    is-open-requires
-    tell-select-requires
-    tell-end-requires-2
     same-length-2
     returns-2)

@@ -1,14 +1,19 @@
--- The events of an item are counted up; the array keeps its length.
-use mathlib.Core.Path.{_≡_}
+-- After k events the bench is where the first k events of the item lead, so the others lead on from there; a refused
+-- one ends it.
+use mathlib.Core.Path.{_≡_, refl, _∙_}
 use Prim.Native.Nat.{_-_}
-use lib.ListN.{length}
+use lib.ListN.{length, drop}
 use borrow.Author.Needs.{needs}
 use Rattle.report.specs.Items.{itemEvents}
+use Rattle.bench.specs.Run.{going, afterEvents, afterItem}
+use Rattle.bench.proofs.Events.{events-on, events-end, events-over}
 use Rattle.bench.proofs.replay.take_item.Statement.{statement}
 use Rattle.bench.proofs.replay.take_item.Tie as tie
 
 abbrev Inv-loop : tie.InvT-loop
-Inv-loop array₀ shown₀ item events turn₀ k₀ array shown turn k = (length array ≡ length array₀)
+Inv-loop array₀ shown₀ item events turn₀ k₀ array shown turn k =
+    (turn .refusal ≡ 0) × (length array ≡ length array₀)
+    × (afterEvents (going (turn .stand) array shown) (drop k (itemEvents item)) ≡ afterEvents (going (turn₀ .stand) array₀ shown₀) (itemEvents item))
 
 abbrev μ-loop : tie.MeasureT-loop
 μ-loop array₀ shown₀ item events turn₀ k₀ array shown turn k = events - k
@@ -17,7 +22,7 @@ events-of-requires : tie.Need-events-of-requires Inv-loop μ-loop
 events-of-requires c κs = search needs
 
 loop-holds : tie.Need-loop-holds Inv-loop μ-loop
-loop-holds c = search needs
+loop-holds c = (refl, refl, refl)
 
 event-of-requires : tie.Need-event-of-requires Inv-loop μ-loop
 event-of-requires c κs = search needs
@@ -29,7 +34,8 @@ same-length : tie.Need-same-length Inv-loop μ-loop
 same-length c = search needs
 
 returns : tie.Need-returns Inv-loop μ-loop
-returns c = search needs
+unfolding afterItem
+returns c = events-end _ _ _ _ _ _ _ _ _ _ (c .before .before .before .before .before .before .before .before .before .before .events-of .ensures) (c .before .before .before .before .before .before .before .before .loop-test .taken) (c .before .before .before .before .before .event-of .ensures) (c .before .before .before .before .take-event .ensures) (c .if1 .taken) ∙ c .before .before .before .before .before .before .before .before .before .loop .inv .2
 
 add-k : tie.Need-add-k Inv-loop μ-loop
 add-k c = search needs
@@ -38,13 +44,14 @@ loop-less : tie.Need-loop-less Inv-loop μ-loop
 loop-less c = search needs
 
 loop-again : tie.Need-loop-again Inv-loop μ-loop
-loop-again c = search needs
+loop-again c = (c .if1 .left, search needs, events-on _ _ _ _ _ _ _ _ _ _ (c .before .before .before .before .before .before .before .before .before .before .events-of .ensures) (c .before .before .before .before .before .before .before .before .loop-test .taken) (c .before .before .before .before .before .event-of .ensures) (c .before .before .before .before .take-event .ensures) (c .if1 .left) ∙ c .before .before .before .before .before .before .before .before .before .loop .inv .2)
 
 same-length-2 : tie.Need-same-length-2 Inv-loop μ-loop
 same-length-2 c = search needs
 
 returns-2 : tie.Need-returns-2 Inv-loop μ-loop
-returns-2 c = search needs
+unfolding afterItem
+returns-2 c = events-over _ _ _ _ _ _ (c .before .before .events-of .ensures) (c .loop-test .left) (c .before .loop .inv .0) ∙ c .before .loop .inv .2
 
 pub take-item-spec : {M : Type 1} → statement M
 take-item-spec =

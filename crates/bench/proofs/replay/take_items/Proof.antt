@@ -1,21 +1,25 @@
--- Each number moves the place on in the trace, so the run ends; the array keeps its length.
-use mathlib.Core.Path.{_≡_}
+-- Wherever the run is, the items that are left lead from there to where all of them lead from the start. Each number moves
+-- the place on in the trace, so the run ends.
+use mathlib.Core.Path.{_≡_, refl, sym, _∙_}
 use Prim.Native.Nat.{_-_}
 use native.Mathlib.Omega.{arith}
 use lib.ListN.{length}
 use borrow.Author.Needs.{needs}
+use Rattle.bench.specs.Run.{benchOf, ranFrom}
+use Rattle.bench.proofs.Runs.{ran-stays, ran-number, ran-end, ran-refused}
 use Rattle.bench.proofs.Reading.{moves}
 use Rattle.bench.proofs.replay.take_items.Statement.{statement}
 use Rattle.bench.proofs.replay.take_items.Tie as tie
 
 abbrev Inv-loop : tie.InvT-loop
-Inv-loop trace at array₀ shown₀ turn₀ place₀ array shown turn place = length array ≡ length array₀
+Inv-loop trace at array₀ shown₀ turn₀ place₀ array shown turn place =
+    (length array ≡ length array₀) × (ranFrom trace place (benchOf turn array shown) ≡ ranFrom trace at (benchOf turn₀ array₀ shown₀))
 
 abbrev μ-loop : tie.MeasureT-loop
 μ-loop trace at array₀ shown₀ turn₀ place₀ array shown turn place = length trace - place
 
 loop-holds : tie.Need-loop-holds Inv-loop μ-loop
-loop-holds c = search needs
+loop-holds c = (refl, refl)
 
 number-at-requires : tie.Need-number-at-requires Inv-loop μ-loop
 number-at-requires c κs = search needs
@@ -30,7 +34,7 @@ loop-less : tie.Need-loop-less Inv-loop μ-loop
 loop-less c = omega (arith, moves _ _ _ _ _ (c .before .before .before .before .before .before .before .before .number-at .ensures) (c .before .before .before .before .before .before .value .given .1))
 
 loop-again : tie.Need-loop-again Inv-loop μ-loop
-loop-again c = search needs
+loop-again c = (search needs, ran-number _ _ _ _ _ _ (c .before .before .before .before .before .before .before .before .number-at .ensures) (c .before .before .before .before .before .before .before .before .before .if1 .taken) _ _ _ _ _ (c .before .before .before .before .before .before .value .given .1) (c .before .before .take-item .ensures) ∙ c .before .before .before .before .before .before .before .before .before .before .before .loop .inv .1)
 
 enum-told : tie.Need-enum-told Inv-loop μ-loop
 enum-told c = search needs
@@ -39,7 +43,7 @@ same-length : tie.Need-same-length Inv-loop μ-loop
 same-length c = search needs
 
 returns : tie.Need-returns Inv-loop μ-loop
-returns c = search needs
+returns c = ran-end _ _ _ _ _ _ (c .before .before .number-at .ensures) (c .before .before .before .if1 .taken) _ (c .enum-told .given .1) ∙ c .before .before .before .before .before .loop .inv .1
 
 enum-known-refusal : tie.Need-enum-known-refusal Inv-loop μ-loop
 enum-known-refusal c = search needs
@@ -51,13 +55,13 @@ same-length-2 : tie.Need-same-length-2 Inv-loop μ-loop
 same-length-2 c = search needs
 
 returns-2 : tie.Need-returns-2 Inv-loop μ-loop
-returns-2 c = search needs
+returns-2 c = ran-refused _ _ _ _ _ _ (c .before .before .before .before .number-at .ensures) (c .before .before .before .before .before .if1 .taken) _ _ _ (c .before .before .refusal .given .1) (c .number-of .ensures) ∙ c .before .before .before .before .before .before .before .loop .inv .1
 
 same-length-3 : tie.Need-same-length-3 Inv-loop μ-loop
 same-length-3 c = search needs
 
 returns-3 : tie.Need-returns-3 Inv-loop μ-loop
-returns-3 c = search needs
+returns-3 c = sym (ran-stays _ _ _ (c .if1 .left)) ∙ c .before .before .loop .inv .1
 
 pub take-items-spec : {M : Type 1} → statement M
 take-items-spec =
