@@ -19,63 +19,34 @@ use Rattle.lines.specs.declared.hold.Hold.the-variants.{High, LowCsLow, 
 use Rattle.lines.specs.declared.state.State.{State}
 use Rattle.lines.specs.declared.state.Moved.{Moved}
 
--- a state with one thing changed
-abbrev pub withSck : State → Bool → State
-withSck s level =
+-- a state with other lines, and with one of them changed
+abbrev pub withLines : State → Bool → Bool → Bool → Hold → State
+withLines s sck si wp hold =
     record {
       part = s .part;
       kept = s .kept;
       power = s .power;
-      sck = level;
-      si = s .si;
-      wp = s .wp;
-      latch = s .latch;
-      hold = s .hold;
-      stage = s .stage;
-    }
-
-abbrev pub withSi : State → Bool → State
-withSi s level =
-    record {
-      part = s .part;
-      kept = s .kept;
-      power = s .power;
-      sck = s .sck;
-      si = level;
-      wp = s .wp;
-      latch = s .latch;
-      hold = s .hold;
-      stage = s .stage;
-    }
-
-abbrev pub withWp : State → Bool → State
-withWp s level =
-    record {
-      part = s .part;
-      kept = s .kept;
-      power = s .power;
-      sck = s .sck;
-      si = s .si;
-      wp = level;
-      latch = s .latch;
-      hold = s .hold;
-      stage = s .stage;
-    }
-
-abbrev pub withHold : State → Hold → State
-withHold s hold =
-    record {
-      part = s .part;
-      kept = s .kept;
-      power = s .power;
-      sck = s .sck;
-      si = s .si;
-      wp = s .wp;
+      sck = sck;
+      si = si;
+      wp = wp;
       latch = s .latch;
       hold = hold;
       stage = s .stage;
     }
 
+abbrev pub withSck : State → Bool → State
+withSck s level = withLines s level (s .si) (s .wp) (s .hold)
+
+abbrev pub withSi : State → Bool → State
+withSi s level = withLines s (s .sck) level (s .wp) (s .hold)
+
+abbrev pub withWp : State → Bool → State
+withWp s level = withLines s (s .sck) (s .si) level (s .hold)
+
+abbrev pub withHold : State → Hold → State
+withHold s hold = withLines s (s .sck) (s .si) (s .wp) hold
+
+-- a state with another latch and stage
 abbrev pub withStage : State → Bool → Stage → State
 withStage s latch stage =
     record {
