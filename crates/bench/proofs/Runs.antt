@@ -15,7 +15,7 @@ use Rattle.trace.specs.declared.answer.Read.the-variants.{Number, End, Refused}
 use Rattle.trace.specs.declared.answer.Refusal.{Refusal}
 use Rattle.trace.specs.declared.answer.Refusal.the-variants.{Malformed, TooLarge, Beyond, NoRoom}
 use Rattle.parts.specs.Figures.{figureOf}
-use Rattle.parts.specs.FigureLaws.{largest}
+use Rattle.parts.specs.FigureLaws.{most, largest}
 use Rattle.parts.specs.declared.figures.Figure.{Figure}
 use Rattle.chip.specs.Power.{filled}
 use Rattle.report.specs.Items.{itemEvents}
@@ -86,7 +86,7 @@ take-replicate (suc n) (suc m) a h = ap (λ (l : List ℕ). a ∷ l) (take-repli
 pub replayed-led :
     (s os : List ℕ) (lead : Head) (f : Figure) (b : Bench)
     → lead ≡ headOf s → lead .refusal ≡ 0 → f ≡ figureOf (lead .part)
-    → b ≡ ran s lead (take (f .size) (replicate 2048 0)) os → b ≡ replayed s os
+    → b ≡ ran s lead (take (f .size) (replicate most 0)) os → b ≡ replayed s os
 unfolding replayed
 replayed-led s os lead f b led none row is =
-    rw (is, row, take-replicate (figureOf (lead .part) .size) 2048 0 (largest (lead .part)), ← led, eq-eqb _ _ none)
+    rw (is, row, take-replicate (figureOf (lead .part) .size) most 0 (largest (lead .part)), ← led, eq-eqb _ _ none)

@@ -1,4 +1,5 @@
-// The pins' edges, each a method that hands back the next state with the note.
+// The pins' edges, each a method that hands back the next state with the note. The edges of /CS and SCK build what they
+// hand back in place, and not by `silent`: time it before you change that (docs/SPEED.md).
 ghost use mathlib.Core.Path.{_≡_};
 ghost use Rattle.lines.specs.Edges.{silent, csFall, csRise, sckRise, sckFall, siTo, holdFall, holdRise, wpTo, vddFall, vddRise};
 use crate::hold::Hold;
@@ -36,13 +37,20 @@ impl State {
                 stage: Stage::Code(no_bits()),
                 ..self
             };
-            return state.silent();
+            Moved {
+                state,
+                note: Note::Nothing,
+            }
+        } else {
+            let state = State {
+                hold: Hold::LowCsLow,
+                ..self
+            };
+            Moved {
+                state,
+                note: Note::Nothing,
+            }
         }
-        let state = State {
-            hold: Hold::LowCsLow,
-            ..self
-        };
-        state.silent()
     }
 
     // The select closes, and the latch may drop; in hold only the level moves.
@@ -52,7 +60,8 @@ impl State {
         let hold = self.hold;
         let stage = self.stage;
         if hold_high(hold) {
-            if self.latch & drops(stage) {
+            let dropped = self.latch & drops(stage);
+            if dropped {
                 let state = State {
                     latch: false,
                     stage: Stage::Closed,
@@ -67,13 +76,20 @@ impl State {
                 stage: Stage::Closed,
                 ..self
             };
-            return state.silent();
+            Moved {
+                state,
+                note: Note::Nothing,
+            }
+        } else {
+            let state = State {
+                hold: Hold::LowCsHigh,
+                ..self
+            };
+            Moved {
+                state,
+                note: Note::Nothing,
+            }
         }
-        let state = State {
-            hold: Hold::LowCsHigh,
-            ..self
-        };
-        state.silent()
     }
 
     // A select takes a bit.
@@ -99,10 +115,14 @@ impl State {
                 stage: next,
                 ..self
             };
-            return Moved { state, note };
+            Moved { state, note }
+        } else {
+            let state = State { sck: true, ..self };
+            Moved {
+                state,
+                note: Note::Nothing,
+            }
         }
-        let state = State { sck: true, ..self };
-        state.silent()
     }
 
     // A select may show a bit.
@@ -119,10 +139,17 @@ impl State {
                 stage: next,
                 ..self
             };
-            return state.silent();
+            Moved {
+                state,
+                note: Note::Nothing,
+            }
+        } else {
+            let state = State { sck: false, ..self };
+            Moved {
+                state,
+                note: Note::Nothing,
+            }
         }
-        let state = State { sck: false, ..self };
-        state.silent()
     }
 
     // SI has a level and no more: one method for both edges.

@@ -74,7 +74,10 @@ row test [] h n k = n
 row test (f ∷ fs) h n zero = left (test f) (every test fs) h
 row test (f ∷ fs) h n (suc k) = row test fs (right (test f) (every test fs) h) n k
 
--- What a test says of each row it says of any number's. No array is larger than LARGEST (src/figures.rt); a number that is no part's has none
-pub largest : (part : ℕ) → figureOf part .size ≤ 2048
+-- LARGEST (src/figures.rt). No part's array is larger; a number that is no part's has none.
+abbrev pub most : ℕ
+most = 2048
+
+pub largest : (part : ℕ) → figureOf part .size ≤ most
 unfolding figureOf every
-largest part = leb-true (figureOf part .size) 2048 (row (λ f. leb (f .size) 2048) parts refl refl part)
+largest part = leb-true (figureOf part .size) most (row (λ f. leb (f .size) most) parts refl refl part)

@@ -10,27 +10,13 @@ hold-high-requires c κs = search needs
 no-bits-requires : tie.Need-no-bits-requires
 no-bits-requires c κs = search needs
 
-silent-requires : tie.Need-silent-requires
-silent-requires c κs = search needs
-
 returns : tie.Need-returns
 unfolding csFall
-returns c = simp (c .silent .ensures, c .before .no-bits .ensures, ← c .before .before .before .hold-high .ensures, c .before .before .if1 .taken)
-
-silent-requires-2 : tie.Need-silent-requires-2
-silent-requires-2 c κs = search needs
+returns c = simp (c .no-bits .ensures, ← c .before .before .hold-high .ensures, c .before .if1 .taken)
 
 returns-2 : tie.Need-returns-2
 unfolding csFall
-returns-2 c = simp (c .silent2 .ensures, ← c .before .before .hold-high .ensures, c .before .if1 .left)
+returns-2 c = simp (← c .before .hold-high .ensures, c .if1 .left)
 
 pub cs-fall-spec : {M : Type 1} → statement M
-cs-fall-spec =
-    tie.close
-    (tie.spec
-    hold-high-requires
-    no-bits-requires
-    silent-requires
-    returns
-    silent-requires-2
-    returns-2)
+cs-fall-spec = tie.close (tie.spec hold-high-requires no-bits-requires returns returns-2)

@@ -12,30 +12,15 @@ drops-requires c κs = search needs
 
 returns : tie.Need-returns
 unfolding csRise
-returns c = simp (← c .before .before .drops .ensures, ← c .before .before .before .before .hold-high .ensures, c .if2 .taken, c .before .before .before .if1 .taken)
-
-silent-requires : tie.Need-silent-requires
-silent-requires c κs = search needs
+returns c = rw (← c .before .before .drops .ensures, ← c .before .before .before .before .hold-high .ensures, c .if2 .taken, c .before .before .before .if1 .taken)
 
 returns-2 : tie.Need-returns-2
 unfolding csRise
-returns-2 c = simp (c .silent .ensures, ← c .before .before .before .drops .ensures, ← c .before .before .before .before .before .hold-high .ensures, c .before .if2 .left, c .before .before .before .before .if1 .taken)
-
-silent-requires-2 : tie.Need-silent-requires-2
-silent-requires-2 c κs = search needs
+returns-2 c = rw (← c .before .before .drops .ensures, ← c .before .before .before .before .hold-high .ensures, c .if2 .left, c .before .before .before .if1 .taken)
 
 returns-3 : tie.Need-returns-3
 unfolding csRise
-returns-3 c = simp (c .silent2 .ensures, ← c .before .before .hold-high .ensures, c .before .if1 .left)
+returns-3 c = simp (← c .before .hold-high .ensures, c .if1 .left)
 
 pub cs-rise-spec : {M : Type 1} → statement M
-cs-rise-spec =
-    tie.close
-    (tie.spec
-    hold-high-requires
-    drops-requires
-    returns
-    silent-requires
-    returns-2
-    silent-requires-2
-    returns-3)
+cs-rise-spec = tie.close (tie.spec hold-high-requires drops-requires returns returns-2 returns-3)
