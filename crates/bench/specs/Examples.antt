@@ -17,7 +17,7 @@ use Rattle.lines.specs.Edges.{csFall, csRise, sckRise, sckFall}
 use Rattle.lines.specs.Sound.{sound}
 use Rattle.lines.specs.Watch.{isOpen, seesRise}
 use Rattle.chip.specs.Event.{live, step, checks, event, written}
-use Rattle.chip.specs.Examples.{same}
+use Rattle.chip.specs.Examples.Run.{same}
 use Rattle.chip.specs.Power.{fillRefusal, filled, powerRefusal, powerUp}
 use Rattle.report.specs.Items.{itemEvents}
 use Rattle.stages.specs.Clocked.{clocked}
@@ -125,5 +125,5 @@ traces =
     ∷ []
 
 examples : T (all traces)
-unfolding equal ends holds all traces same figureOf command afterCode takeBit bitOf shows afterByte fall opened codeRise rise soundShift soundStage csFall csRise sckRise sckFall live step checks event written sound isOpen seesRise reading fillRefusal filled powerRefusal powerUp clocked itemEvents counted codeAfter sampled risen shownAfter noted leading headOf afterEvent afterItem itemsFrom ranFrom started ran replayed clockedBy shownBy after
+unfolding equal ends holds all traces figureOf command afterCode takeBit bitOf shows afterByte fall opened codeRise rise soundShift soundStage csFall csRise sckRise sckFall live step checks event written sound isOpen seesRise reading fillRefusal filled powerRefusal powerUp clocked itemEvents counted codeAfter sampled risen shownAfter noted leading headOf afterEvent afterItem itemsFrom ranFrom started ran replayed clockedBy shownBy after
 examples = tt

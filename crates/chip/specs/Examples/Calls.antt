@@ -1,0 +1,140 @@
+-- Refusals of single calls, "exactly when" and in their order: what the calls say of a part, an array's length, kept bits, a
+-- state and a code, made up or not. Assumes nothing.
+use Prim.Native.Nat.{ℕ}
+use mathlib.Core.Bool.{Bool, true, false, _&&_}
+use mathlib.Core.List.{List, [], _∷_}
+use lib.Dec.{eqb}
+use lib.ListN.{replicate}
+use Rattle.stages.specs.declared.stage.Stage.{Stage}
+use Rattle.stages.specs.declared.stage.Stage.the-variants.{Code, Upper, Lower, Writing, Keeping, Showing, Ready}
+use Rattle.stages.specs.declared.stage.Source.the-variants.{Array}
+use Rattle.stages.specs.Bits.{fresh}
+use Rattle.lines.specs.Edges.{withSck, withWp, withSi, withHold, withStage}
+use Rattle.lines.specs.Lines.{atRest}
+use Rattle.lines.specs.declared.hold.Hold.the-variants.{LowCsHigh}
+use Rattle.lines.specs.declared.state.State.{State}
+use Rattle.select.specs.Notes.{levelNumber, noteNumbers}
+use Rattle.chip.specs.Event.{event}
+use Rattle.chip.specs.Examples.Run.{same, stateNumbers}
+use Rattle.chip.specs.Power.{fillRefusal, filled, powerUp}
+use Rattle.chip.specs.declared.event.Answer.{Answer}
+use Rattle.chip.specs.declared.power.Powered.{Powered}
+
+-- "Any other refusal returns its number with the state given; SO reads released, the note is nothing."
+abbrev pub stays : State → ℕ → Answer → Bool
+stays s number a =
+    eqb (a .refusal) number && same (stateNumbers (a .state)) (stateNumbers s)
+    && eqb (levelNumber (a .so)) 2 && eqb (noteNumbers (a .note) .kind) 0
+
+-- an event over an array of so many bytes: refused with this number; 0: accepted, and nothing comes of it
+pub record Refused : Type 0 where
+  pub state : State
+  pub len : ℕ
+  pub code : ℕ
+  pub number : ℕ
+
+abbrev refuses : State → ℕ → ℕ → ℕ → Refused
+refuses state len code number = record { state = state; len = len; code = code; number = number }
+
+abbrev pub allRefused : List Refused → Bool
+allRefused [] = true
+allRefused (c ∷ cs) = stays (c .state) (c .number) (event (replicate (c .len) 0) (c .state) (c .code)) && allRefused cs
+
+-- part 1 or 3 with no kept bits, in a select's stage
+abbrev in1 : Stage → State
+in1 stage = withStage (atRest 1 0 true) false stage
+
+abbrev in3 : Stage → State
+in3 stage = withStage (atRest 3 0 true) false stage
+
+-- "An event checks 4, 2, 5, 6, 7."
+unfoldable pub refused : List Refused
+refused =
+    -- 15. "Array of 511 or 513: 2. Event 11 and 12: accepted, 5."
+    refuses (atRest 1 0 true) 511 11 2 ∷ refuses (atRest 1 0 true) 513 11 2 ∷ refuses (atRest 1 0 true) 512 11 0
+    ∷ refuses (atRest 1 0 true) 512 12 5
+    -- the part's own length, and no other's; with power off too
+    ∷ refuses (atRest 2 0 true) 2048 11 2 ∷ refuses (atRest 3 0 true) 512 11 2 ∷ refuses (atRest 3 0 true) 2048 11 0
+    ∷ refuses (atRest 1 0 false) 511 0 2 ∷ refuses (atRest 1 0 false) 512 12 5 ∷ refuses (atRest 1 0 false) 512 0 0
+    -- 2 before 5, 4 before 2, 5 before 6
+    ∷ refuses (atRest 1 0 true) 511 12 2 ∷ refuses (atRest 9 0 true) 511 12 4 ∷ refuses (withSck (atRest 1 0 true) true) 512 14 5
+    -- "a part not 1 to 3, kept bits outside the mask"
+    ∷ refuses (atRest 0 0 true) 0 11 4 ∷ refuses (atRest 4 0 true) 512 11 4 ∷ refuses (atRest 1 0x01 true) 512 11 4
+    ∷ refuses (atRest 2 0x80 true) 512 11 4 ∷ refuses (atRest 3 0x8E true) 2048 11 4 ∷ refuses (atRest 3 0x8C true) 2048 11 0
+    -- "power off in another form than the off state", field by field
+    ∷ refuses (withSck (atRest 1 0 false) true) 512 0 4 ∷ refuses (withSi (atRest 1 0 false) true) 512 0 4
+    ∷ refuses (withWp (atRest 1 0 false) false) 512 0 4 ∷ refuses (withHold (atRest 1 0 false) LowCsHigh) 512 0 4
+    ∷ refuses (withStage (atRest 1 0 false) false (Code fresh)) 512 0 4
+    ∷ refuses (withStage (atRest 1 0 false) true (atRest 1 0 false .stage)) 512 0 4
+    -- "an address not below the part's size"
+    ∷ refuses (in1 (Writing (record { at = 512; shift = fresh; whole = false }))) 512 11 4
+    ∷ refuses (in1 (Writing (record { at = 511; shift = fresh; whole = false }))) 512 11 0
+    ∷ refuses (in3 (Writing (record { at = 2048; shift = fresh; whole = false }))) 2048 11 4
+    ∷ refuses (in3 (Ready (Array 2048))) 2048 11 4 ∷ refuses (in3 (Ready (Array 2047))) 2048 11 0
+    ∷ refuses (in1 (Showing (record { source = Array 512; bit = 0; level = false }))) 512 11 4
+    ∷ refuses (in1 (Lower (record { write = true; page = 2; shift = fresh }))) 512 11 4
+    ∷ refuses (in1 (Lower (record { write = true; page = 1; shift = fresh }))) 512 11 0
+    ∷ refuses (in3 (Lower (record { write = true; page = 8; shift = fresh }))) 2048 11 4
+    -- "a partial byte or bit count that no number of clocks gives"
+    ∷ refuses (in1 (Code (record { bits = 8; byte = 0 }))) 512 11 4
+    ∷ refuses (in1 (Code (record { bits = 7; byte = 127 }))) 512 11 0
+    ∷ refuses (in1 (Keeping (record { bits = 2; byte = 4 }))) 512 11 4
+    ∷ refuses (in1 (Keeping (record { bits = 2; byte = 3 }))) 512 11 0
+    ∷ refuses (in1 (Upper (record { write = true; shift = fresh }))) 512 11 4
+    ∷ refuses (in1 (Showing (record { source = Array 0; bit = 8; level = false }))) 512 11 4
+    ∷ []
+
+-- a power-up over an array of so many bytes
+pub record Powering : Type 0 where
+  pub part : ℕ
+  pub kept : ℕ
+  pub len : ℕ
+  pub number : ℕ
+  pub state : State
+
+-- "A refused power-up returns part 1 in the off state with kept bits 0."
+abbrev fails : ℕ → ℕ → ℕ → ℕ → Powering
+fails part kept len number = record { part = part; kept = kept; len = len; number = number; state = atRest 1 0 false }
+
+abbrev starts : ℕ → ℕ → ℕ → Powering
+starts part kept len = record { part = part; kept = kept; len = len; number = 0; state = atRest part kept true }
+
+abbrev pub powersUp : Powering → Powered → Bool
+powersUp c p = eqb (p .refusal) (c .number) && same (stateNumbers (p .state)) (stateNumbers (c .state))
+
+abbrev pub allPowered : List Powering → Bool
+allPowered [] = true
+allPowered (c ∷ cs) = powersUp c (powerUp (c .part) (c .kept) (replicate (c .len) 0)) && allPowered cs
+
+-- "Power-up checks 1, 2, 3."
+unfoldable pub powered : List Powering
+powered =
+    fails 0 0 0 1 ∷ fails 4 0x01 511 1 ∷ fails 257 0 512 1
+    ∷ fails 1 0x01 511 2 ∷ fails 1 0 513 2 ∷ fails 2 0 2048 2 ∷ fails 3 0 512 2
+    ∷ fails 1 0x01 512 3 ∷ fails 1 0x80 512 3 ∷ fails 2 0x80 512 3 ∷ fails 3 0x8D 2048 3 ∷ fails 1 256 512 3 ∷ fails 1 0x10C 512 3
+    ∷ starts 1 0x0C 512 ∷ starts 2 0x08 512 ∷ starts 3 0x8C 2048
+    ∷ []
+
+-- a fill of an array of EE
+pub record Filling : Type 0 where
+  pub part : ℕ
+  pub len : ℕ
+  pub number : ℕ
+  pub byte : ℕ
+
+abbrev fills : ℕ → ℕ → ℕ → ℕ → Filling
+fills part len number byte = record { part = part; len = len; number = number; byte = byte }
+
+abbrev pub allFilled : List Filling → Bool
+allFilled [] = true
+allFilled (c ∷ cs) =
+    eqb (fillRefusal (c .part) (c .len)) (c .number)
+    && same (filled (c .part) (replicate (c .len) 0xEE)) (replicate (c .len) (c .byte))
+    && allFilled cs
+
+-- "Filling a fresh array with 00 checks 1, 2." "Lent memory stays at every refusal."
+unfoldable pub fillings : List Filling
+fillings =
+    fills 0 0 1 0xEE ∷ fills 4 511 1 0xEE ∷ fills 1 511 2 0xEE ∷ fills 2 513 2 0xEE ∷ fills 3 512 2 0xEE
+    ∷ fills 1 512 0 0x00 ∷ fills 2 512 0 0x00 ∷ fills 3 2048 0 0x00
+    ∷ []

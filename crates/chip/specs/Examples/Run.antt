@@ -1,0 +1,200 @@
+-- How an example is run and what is told of it: every answer counts, and the whole state at the end. Computed from the
+-- definitions that the calls' promises cite. Assumes nothing.
+use Prim.Native.Nat.{ℕ, _*_, _/_, _%_}
+use mathlib.Core.Bool.{Bool, true, false, cond, _&&_}
+use mathlib.Core.List.{List, [], _∷_, _++_}
+use lib.ListN.{set, take, replicate}
+use lib.Dec.{eqb}
+use Rattle.parts.specs.Figures.{figureOf}
+use Rattle.stages.specs.Bits.{lowBit}
+use Rattle.stages.specs.Clocked.{clocked}
+use Rattle.stages.specs.declared.stage.Source.{Source}
+use Rattle.stages.specs.declared.stage.Source.the-variants.{Array, Status}
+use Rattle.stages.specs.declared.stage.Stage.{Stage}
+use Rattle.stages.specs.declared.stage.Stage.the-variants.{Closed, Code, Upper, Lower, Ready, Showing, Writing, Keeping, Over}
+use Rattle.select.specs.Notes.{NoteNumbers, levelNumber, noteNumbers}
+use Rattle.select.specs.declared.notes.Note.{Note}
+use Rattle.select.specs.declared.notes.Note.the-variants.{Nothing, Latch, Stored, HeldBack, KeptSet, KeptHeldBack, PowerLost}
+use Rattle.lines.specs.Edges.{withSi, withWp, withStage}
+use Rattle.lines.specs.Lines.{atRest}
+use Rattle.lines.specs.Watch.{seesRise}
+use Rattle.lines.specs.declared.hold.Hold.{Hold}
+use Rattle.lines.specs.declared.hold.Hold.the-variants.{High, LowCsLow, LowCsHigh}
+use Rattle.lines.specs.declared.state.State.{State}
+use Rattle.chip.specs.Event.{event, written}
+use Rattle.chip.specs.Power.{fillRefusal, filled, powerUp}
+use Rattle.chip.specs.declared.event.Answer.{Answer}
+use Rattle.chip.specs.declared.power.Powered.{Powered}
+
+-- what is sent
+
+abbrev pub clockAll : List ℕ → List ℕ
+clockAll [] = []
+clockAll (byte ∷ bytes) = clocked byte ++ clockAll bytes
+
+-- a select that is left open
+abbrev pub begins : List ℕ → List ℕ
+begins bytes = 0 ∷ clockAll bytes
+
+-- "each transfer is one select"
+abbrev pub transfer : List ℕ → List ℕ
+transfer bytes = begins bytes ++ (1 ∷ [])
+
+-- the first n clocks of a byte
+abbrev pub clocks : ℕ → ℕ → List ℕ
+clocks n byte = take (3 * n) (clocked byte)
+
+abbrev pub wren : List ℕ
+wren = transfer (0x06 ∷ [])
+
+-- an example: the part, its kept bits at power-up and what is sent; then what it should give: each refusal that is not 0,
+-- each note that is not nothing, each byte that SO showed, SO in the last answer, and the whole state at the end
+pub record Example : Type 0 where
+  pub part : ℕ
+  pub kept : ℕ
+  pub events : List ℕ
+  pub refusals : List ℕ
+  pub notes : List Note
+  pub shown : List ℕ
+  pub so : ℕ
+  pub state : State
+
+-- every event is accepted, and SO is released at the end
+abbrev pub accepts : ℕ → ℕ → List ℕ → List Note → List ℕ → State → Example
+accepts part kept events notes shown state =
+    record { part = part; kept = kept; events = events; refusals = []; notes = notes; shown = shown; so = 2; state = state }
+
+-- nothing is shown
+abbrev pub writes : ℕ → ℕ → List ℕ → List Note → State → Example
+writes part kept events notes state = accepts part kept events notes [] state
+
+-- the state with no select open, SCK low, /HOLD and /WP high: the kept bits, the latch, and SI as the last bit left it
+abbrev pub idle : ℕ → ℕ → Bool → Bool → State
+idle part kept latch si = withStage (withSi (atRest part kept true) si) latch Closed
+
+abbrev pub wpLow : State → State
+wpLow s = withWp s false
+
+-- what comes of it
+
+pub record Run : Type 0 where
+  pub refusals : List ℕ
+  pub notes : List ℕ
+  -- SO in the answer before each seen rise
+  pub levels : List ℕ
+  pub so : ℕ
+  pub state : State
+  pub array : List ℕ
+
+abbrev pub orNone : ℕ → List ℕ → List ℕ
+orNone n more = cond (eqb n 0) more (n ∷ more)
+
+abbrev pub noted : NoteNumbers → List ℕ → List ℕ
+noted n more = cond (eqb (n .kind) 0) more (n .kind ∷ n .first ∷ n .second ∷ more)
+
+abbrev pub answered : State → ℕ → ℕ → Answer → Run → Run
+answered s so code a r =
+    record {
+      refusals = orNone (a .refusal) (r .refusals);
+      notes = noted (noteNumbers (a .note)) (r .notes);
+      levels = cond (seesRise s code) (so ∷ r .levels) (r .levels);
+      so = r .so;
+      state = r .state;
+      array = r .array;
+    }
+
+-- the single calls one after the other, each over what the one before it left
+abbrev pub run : State → ℕ → List ℕ → List ℕ → Run
+run s so xs [] = record { refusals = []; notes = []; levels = []; so = so; state = s; array = xs }
+run s so xs (code ∷ codes) =
+    let a = event xs s code in
+    answered s so code a (run (a .state) (levelNumber (a .so)) (written (a .note) xs) codes)
+
+-- how the two are compared
+
+abbrev pub same : List ℕ → List ℕ → Bool
+same [] [] = true
+same [] (y ∷ ys) = false
+same (x ∷ xs) [] = false
+same (x ∷ xs) (y ∷ ys) = eqb x y && same xs ys
+
+-- the levels that SO was driven to, eight a byte
+abbrev pub driven : List ℕ → List ℕ
+driven [] = []
+driven (l ∷ ls) = cond (eqb l 2) (driven ls) (l ∷ driven ls)
+
+abbrev pub bits : ℕ → List ℕ
+bits byte = byte / 128 % 2 ∷ byte / 64 % 2 ∷ byte / 32 % 2 ∷ byte / 16 % 2 ∷ byte / 8 % 2 ∷ byte / 4 % 2 ∷ byte / 2 % 2 ∷ byte % 2 ∷ []
+
+abbrev pub bitsOf : List ℕ → List ℕ
+bitsOf [] = []
+bitsOf (byte ∷ bytes) = bits byte ++ bitsOf bytes
+
+abbrev pub numbersOf : List Note → List ℕ
+numbersOf [] = []
+numbersOf (note ∷ notes) = noted (noteNumbers note) (numbersOf notes)
+
+abbrev pub sourceNumbers : Source → List ℕ
+sourceNumbers (Array at) = 0 ∷ at ∷ []
+sourceNumbers Status = 1 ∷ []
+
+abbrev pub stageNumbers : Stage → List ℕ
+stageNumbers Closed = 0 ∷ []
+stageNumbers (Code shift) = 1 ∷ shift .bits ∷ shift .byte ∷ []
+stageNumbers (Upper upper) = 2 ∷ lowBit (upper .write) ∷ upper .shift .bits ∷ upper .shift .byte ∷ []
+stageNumbers (Lower lower) = 3 ∷ lowBit (lower .write) ∷ lower .page ∷ lower .shift .bits ∷ lower .shift .byte ∷ []
+stageNumbers (Ready source) = 4 ∷ sourceNumbers source
+stageNumbers (Showing shown) = 5 ∷ shown .bit ∷ lowBit (shown .level) ∷ sourceNumbers (shown .source)
+stageNumbers (Writing w) = 6 ∷ lowBit (w .whole) ∷ w .at ∷ w .shift .bits ∷ w .shift .byte ∷ []
+stageNumbers (Keeping shift) = 7 ∷ shift .bits ∷ shift .byte ∷ []
+stageNumbers (Over whole) = 8 ∷ lowBit whole ∷ []
+
+abbrev pub holdNumber : Hold → ℕ
+holdNumber High = 0
+holdNumber LowCsLow = 1
+holdNumber LowCsHigh = 2
+
+-- every field of a state
+abbrev pub stateNumbers : State → List ℕ
+stateNumbers s =
+    s .part ∷ s .kept ∷ lowBit (s .power) ∷ lowBit (s .sck) ∷ lowBit (s .si) ∷ lowBit (s .wp) ∷ lowBit (s .latch)
+    ∷ holdNumber (s .hold) ∷ stageNumbers (s .stage)
+
+-- "Array 00"
+abbrev pub blank : ℕ → List ℕ
+blank part = replicate (figureOf part .size) 0
+
+-- an array in which the bytes of the stored notes stand
+abbrev pub overlaid : List ℕ → List Note → List ℕ
+overlaid xs [] = xs
+overlaid xs (Nothing ∷ notes) = overlaid xs notes
+overlaid xs (Latch on ∷ notes) = overlaid xs notes
+overlaid xs (Stored at byte ∷ notes) = overlaid (set xs at byte) notes
+overlaid xs (HeldBack at reason ∷ notes) = overlaid xs notes
+overlaid xs (KeptSet kept ∷ notes) = overlaid xs notes
+overlaid xs (KeptHeldBack reason ∷ notes) = overlaid xs notes
+overlaid xs (PowerLost ∷ notes) = overlaid xs notes
+
+abbrev pub ends : Example → Run → Bool
+ends e r =
+    same (r .refusals) (e .refusals)
+    && same (r .notes) (numbersOf (e .notes))
+    && same (driven (r .levels)) (bitsOf (e .shown))
+    && eqb (r .so) (e .so)
+    && same (stateNumbers (r .state)) (stateNumbers (e .state))
+    && same (r .array) (overlaid (blank (e .part)) (e .notes))
+
+-- over a lent array that held EE
+abbrev pub lent : ℕ → List ℕ
+lent part = replicate (figureOf part .size) 0xEE
+
+-- the fill and the power-up are accepted, and the example ends as it should
+abbrev pub holds : Example → Bool
+holds e =
+    let xs = filled (e .part) (lent (e .part)) in
+    let p = powerUp (e .part) (e .kept) xs in
+    eqb (fillRefusal (e .part) (figureOf (e .part) .size)) 0 && eqb (p .refusal) 0 && ends e (run (p .state) 2 xs (e .events))
+
+abbrev pub all : List Example → Bool
+all [] = true
+all (e ∷ es) = holds e && all es
