@@ -1,5 +1,5 @@
-// Lists the numbers of a trace: one line for each, with its place and its value, and a last line for
-// the end or the refusal that stops it.
+// Lists the numbers of a trace. One line for each, with its place and its value, and a last line for the end or the
+// refusal that stops it.
 use libc::STDIN_FILENO;
 use libc::STDOUT_FILENO;
 use trace::answer::Read;
