@@ -1,5 +1,5 @@
--- What a bench takes for a seen rise is one: SCK rises, /HOLD being high and a select open, and the select takes SI. No
--- other event is one, and no other takes a bit: pin by pin, SCK doesn't rise and the stage takes none. Assumes nothing.
+-- What a bench takes for a seen rise is one: SCK rises, with /HOLD high and a select open, and the select takes SI. No
+-- other event is one, and no other takes a bit. Event 3 by its tests, the others pin by pin. Assumes nothing.
 use Prim.Native.Nat.{ℕ, _/_, _%_}
 use native.Mathlib.Omega.{arith}
 use mathlib.Core.Path.{_≡_, refl, sym, ap, subst, _∙_}
@@ -7,6 +7,7 @@ use mathlib.Core.Bool.{Bool, true, false, cond, not, _&&_}
 use mathlib.Core.List.{List}
 use borrow.Author.Tests.{eqb-true, eqb-false, not-true}
 use lib.Dec.{eqb}
+use Rattle.parts.specs.Figures.{figureOf}
 use Rattle.parts.specs.TestLaws.{left, right, choose}
 use Rattle.parts.specs.declared.figures.Figure.{Figure}
 use Rattle.stages.specs.Bits.{fresh}
@@ -20,7 +21,8 @@ use Rattle.lines.specs.SoundLaws.{closed-is}
 use Rattle.lines.specs.Watch.{isOpen, seesRise}
 use Rattle.lines.specs.declared.state.State.{State}
 use Rattle.lines.specs.declared.state.Moved.{Moved}
-use Rattle.chip.specs.Event.{accepted, csTo, sckTo, holdTo, csStayed, vddTo, live, dark, step}
+use Rattle.chip.specs.Event.{accepted, csTo, sckTo, holdTo, csStayed, vddTo, live, dark, step, event}
+use Rattle.chip.specs.EventLaws.{accepted-steps}
 use Rattle.chip.specs.declared.event.Answer.{Answer}
 
 -- the stage after an event that takes no bit: as it was, or a select opened or closed, or a fall of SCK
@@ -29,6 +31,10 @@ pub data Unclocked (f : Figure) (xs : List ℕ) (s : State) : Stage → Type 0 w
   opens : Unclocked f xs s (Code fresh)
   closes : Unclocked f xs s Closed
   falls : Unclocked f xs s (shown f xs s)
+
+-- SCK was low and is high after this answer, with /HOLD high and a select open
+abbrev pub seenRise : State → Answer → Bool
+seenRise s a = not (s .sck) && a .state .sck && holdHigh (s .hold) && isOpen s
 
 still : (k : Bool) → (not k && k) ≡ false
 still true = refl
@@ -133,17 +139,19 @@ module _ (f : Figure) (xs : List ℕ) (s : State) where
       falls-only true e p = absurd (eqb-false code 3 h (three (eqb-true _ _ p) (eqb-true _ _ e)))
       falls-only false e p = sck-passes
 
-  -- "Each seen rise of SCK in an open select": SCK was low and is high, with /HOLD high and a select open. No more, no less.
-  abbrev Exact : ℕ → Type 0
-  Exact code = seesRise s code ≡ (not (s .sck) && step f xs s code .state .sck && holdHigh (s .hold) && isOpen s)
+  -- event 3, by the power, the level of SCK and whether /HOLD is high
+  abbrev raised : Bool → Bool → Bool → Answer
+  raised p k h =
+      cond p
+      (accepted (cond k (silent s) (cond h (rose s (rise f (seenBy s) (s .stage))) (silent (withSck s true)))))
+      (accepted (silent s))
 
-  pub rise-exact : (code : ℕ) → Exact code
+  -- "Each seen rise of SCK in an open select", no more and no less
+  pub rise-exact : (code : ℕ) → seesRise s code ≡ seenRise s (step f xs s code)
   unfolding seesRise step live sckRise
   rise-exact code = go (eqb code 3) refl
     where
-      three : (p k h o : Bool) → s .sck ≡ k
-          → (p && h && o && not k && true)
-          ≡ (not k && cond p (accepted (cond k (silent s) (cond h (rose s (rise f (seenBy s) (s .stage))) (silent (withSck s true))))) (accepted (silent s)) .state .sck && h && o)
+      three : (p k h o : Bool) → s .sck ≡ k → (p && h && o && not k && true) ≡ (not k && raised p k h .state .sck && h && o)
       three false true h o e = refl
       three false false h o e = rw e
       three true true false o e = refl
@@ -153,19 +161,23 @@ module _ (f : Figure) (xs : List ℕ) (s : State) where
       three true false true false e = refl
       three true false true true e = refl
 
-      go : (t : Bool) → eqb code 3 ≡ t → Exact code
-      go true e = subst Exact (sym (eqb-true code 3 e)) (three (s .power) (s .sck) (holdHigh (s .hold)) (isOpen s) refl)
+      go : (t : Bool) → eqb code 3 ≡ t → seesRise s code ≡ seenRise s (step f xs s code)
+      go true e =
+          subst (λ (k : ℕ). seesRise s k ≡ seenRise s (step f xs s k)) (sym (eqb-true code 3 e))
+          (three (s .power) (s .sck) (holdHigh (s .hold)) (isOpen s) refl)
       go false e =
           ap (λ (t : Bool). s .power && holdHigh (s .hold) && isOpen s && not (s .sck) && t) e
           ∙ never (s .power && holdHigh (s .hold) && isOpen s && not (s .sck))
           ∙ sym (ap (λ (t : Bool). t && holdHigh (s .hold) && isOpen s) (others-pass code e .0))
 
+  -- where it is none, no bit is taken
   pub unseen-takes-none : (code : ℕ) → seesRise s code ≡ false → Unclocked f xs s (step f xs s code .state .stage)
   unfolding seesRise isOpen step live sckRise rise
   unseen-takes-none code = go (eqb code 3) refl
     where
-      three : (p k h d : Bool) → isClosed (s .stage) ≡ d → (p && h && not d && not k && true) ≡ false
-          → Unclocked f xs s (cond p (accepted (cond k (silent s) (cond h (rose s (rise f (seenBy s) (s .stage))) (silent (withSck s true))))) (accepted (silent s)) .state .stage)
+      three :
+          (p k h d : Bool) → isClosed (s .stage) ≡ d → (p && h && not d && not k && true) ≡ false
+          → Unclocked f xs s (raised p k h .state .stage)
       three false k h d e n = same
       three true true h d e n = same
       three true false false d e n = same
@@ -177,3 +189,9 @@ module _ (f : Figure) (xs : List ℕ) (s : State) where
           rw (eqb-true code 3 e)
           (three (s .power) (s .sck) (holdHigh (s .hold)) (isClosed (s .stage)) refl (rw (eqb-true code 3 e) at h))
       go false e h = others-pass code e .1
+
+-- an accepted event is such a step
+pub event-exact :
+    (xs : List ℕ) (s : State) (code : ℕ) → event xs s code .refusal ≡ 0
+    → seesRise s code ≡ seenRise s (event xs s code)
+event-exact xs s code fine = rw (accepted-steps xs s code fine) (rise-exact (figureOf (s .part)) xs s code)
