@@ -9,7 +9,7 @@ use Rattle.parts.specs.Commands.{command}
 use Rattle.parts.specs.Guards.{firstProtected, mayStore, mayKeep}
 use Rattle.stages.specs.Clocked.{clocked}
 use Rattle.chip.specs.Examples.{Example, clockAll, transfer, clocks, wren, same, stored, fresh, latchOn, latchOff, starred}
-use Rattle.history.specs.Lines.{put, refused, after, act, acts}
+use Rattle.history.specs.Lines.{put, refusal, after, act, acts}
 use Rattle.history.specs.Transfers.{opened, spans}
 use Rattle.history.specs.Bytes.{value, eights, bytes, topBit, number, address, readAs, reading}
 use Rattle.history.specs.History.{World, storeIf, overlay, keepIf, keepFirst, effect, atLeastOne, drops, spanned, inOrder, history}
@@ -44,5 +44,5 @@ more =
     ∷ []
 
 pub examples : T (toldAll (more ++ starred))
-unfolding clocked clockAll transfer clocks wren same stored fresh latchOn latchOff starred leaves told toldAll plain more history inOrder spanned drops atLeastOne effect keepFirst keepIf overlay storeIf reading readAs address number topBit bytes eights value opened spans acts act after refused put figureOf command firstProtected mayStore mayKeep
+unfolding clocked clockAll transfer clocks wren same stored fresh latchOn latchOff starred leaves told toldAll plain more history inOrder spanned drops atLeastOne effect keepFirst keepIf overlay storeIf reading readAs address number topBit bytes eights value opened spans acts act after refusal put figureOf command firstProtected mayStore mayKeep
 examples = tt
