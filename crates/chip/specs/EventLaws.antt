@@ -5,7 +5,7 @@ use mathlib.Core.Bool.{Bool, true, false, cond, not}
 use mathlib.Core.List.{List}
 use lib.ListN.{length}
 use lib.Dec.{eqb, leb}
-use borrow.Author.Tests.{eqb-false, leb-false}
+use borrow.Author.Tests.{eqb-false, eqb-true, eq-eqb, leb-false}
 use Rattle.parts.specs.Figures.{figureOf, fitsPart}
 use Rattle.chip.specs.Event.{checks, event, step, refused}
 use Rattle.lines.specs.Sound.{sound}
@@ -24,13 +24,29 @@ module _ (xs : List ℕ) (s : State) (code : ℕ) where
   unfolding checks
   checks-none good fits known = rw (good, fits, known)
 
--- a code that passes the checks is a pin and a level
-pub checks-known : (s : State) (len code : ℕ) → checks s len code ≡ 0 → code < 12
+-- what the checks let through: the state is sound, the array is the part's, and the code is a pin and a level
+pub checks-passed :
+    (s : State) (len code : ℕ) → checks s len code ≡ 0 → (sound s ≡ true) × (fitsPart (s .part) len ≡ true) × (code < 12)
 unfolding checks
-checks-known s len code = go (sound s) (fitsPart (s .part) len) (leb 12 code) refl
+checks-passed s len code = go (sound s) (fitsPart (s .part) len) (leb 12 code) refl
   where
-    go : (a b t : Bool) → leb 12 code ≡ t → _≡_ {A = ℕ} (cond (not a) 4 (cond (not b) 2 (cond t 5 0))) 0 → code < 12
+    go : (a b t : Bool) → leb 12 code ≡ t → _≡_ {A = ℕ} (cond (not a) 4 (cond (not b) 2 (cond t 5 0))) 0 → (a ≡ true) × (b ≡ true) × (code < 12)
     go false b t e h = absurd (eqb-false 4 0 refl h)
     go true false t e h = absurd (eqb-false 2 0 refl h)
     go true true true e h = absurd (eqb-false 5 0 refl h)
-    go true true false e h = leb-false 12 code e
+    go true true false e h = (refl, refl, leb-false 12 code e)
+
+-- an accepted event passed the checks, and is a step
+module _ (xs : List ℕ) (s : State) (code : ℕ) (fine : event xs s code .refusal ≡ 0) where
+  pub accepted-passed : checks s (length xs) code ≡ 0
+  unfolding event
+  accepted-passed = go (eqb (checks s (length xs) code) 0) refl fine
+    where
+      go : (t : Bool) → eqb (checks s (length xs) code) 0 ≡ t
+          → cond t (step (figureOf (s .part)) xs s code) (refused (checks s (length xs) code) s) .refusal ≡ 0
+          → checks s (length xs) code ≡ 0
+      go true e h = eqb-true _ _ e
+      go false e h = h
+
+  pub accepted-steps : event xs s code ≡ step (figureOf (s .part)) xs s code
+  accepted-steps = event-steps xs s code (eq-eqb _ _ accepted-passed)

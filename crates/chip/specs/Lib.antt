@@ -1,6 +1,7 @@
 pub mod Event
 pub mod Answers
 pub mod Power
+pub mod Promises
 pub mod EventLaws
 pub mod RefusalLaws
 pub mod PowerLaws

@@ -5,12 +5,11 @@ use Prim.Native.Nat.{ℕ}
 use mathlib.Core.Path.{_≡_, ap}
 use mathlib.Core.Bool.{Bool}
 use mathlib.Core.List.{List}
-use lib.ListN.{length}
 use Rattle.parts.specs.TestLaws.{sole}
 use Rattle.select.specs.NoteLaws.{level-one, note-one}
 use Rattle.chip.specs.Answers.{Paper, paper}
-use Rattle.chip.specs.Event.{event, written}
-use Rattle.chip.specs.Power.{powerUp, fillRefusal, filled}
+use Rattle.chip.specs.Power.{powerUp}
+use Rattle.chip.specs.Promises.{EventPromise, FillPromise}
 use Rattle.lines.specs.Sound.{sound}
 use Rattle.chip.specs.declared.event.Answer.{Answer}
 use Rattle.chip.specs.declared.power.Powered.{Powered}
@@ -28,8 +27,8 @@ paper-one a b e = λ i. record { refusal = e i .refusal; so = so i; note = note 
 -- what a call leaves: its answer and the lent array
 module _ (xs : List ℕ) (s : State) (code : ℕ) where
   pub event-one : (a b : Answer) (ys zs : List ℕ)
-      → (paper a ≡ paper (event xs s code)) × (ys ≡ written (event xs s code .note) xs)
-      → (paper b ≡ paper (event xs s code)) × (zs ≡ written (event xs s code .note) xs)
+      → EventPromise xs s code a ys
+      → EventPromise xs s code b zs
       → (a ≡ b) × (ys ≡ zs)
   event-one a b ys zs p q = (paper-one a b (sole (p .0) (q .0)), sole (p .1) (q .1))
 
@@ -38,8 +37,8 @@ module _ (part kept : ℕ) (xs : List ℕ) where
   power-up-one a b = sole
 
   pub fill-one : (a b : ℕ) (ys zs : List ℕ)
-      → (a ≡ fillRefusal part (length xs)) × (ys ≡ filled part xs)
-      → (b ≡ fillRefusal part (length xs)) × (zs ≡ filled part xs)
+      → FillPromise part xs a ys
+      → FillPromise part xs b zs
       → (a ≡ b) × (ys ≡ zs)
   fill-one a b ys zs p q = (sole (p .0) (q .0), sole (p .1) (q .1))
 

@@ -11,6 +11,7 @@ use Rattle.parts.specs.Figures.{figureOf}
 use Rattle.parts.specs.TestLaws.{choose}
 use Rattle.lines.specs.Edges.{holdFall, holdRise}
 use Rattle.chip.specs.Event.{csTo, sckTo, holdTo, csStayed, vddTo, live, dark, step, checks, event}
+use Rattle.chip.specs.EventLaws.{checks-passed, accepted-passed}
 use Rattle.lines.specs.Lines.{atRest, csLevel, holdHigh}
 use Rattle.chip.specs.Power.{powerRefusal, powerUp}
 use Rattle.chip.specs.PowerLaws.{part-and-size, fill-and-mask}
@@ -71,6 +72,11 @@ module _ (s : State) (h : sound s ≡ true) where
   pub event-sound : (xs : List ℕ) (code : ℕ) → Answers (event xs s code)
   unfolding event
   event-sound xs code = choose Answers (eqb (checks s (length xs) code) 0) (step-sound xs code) h
+
+-- "It passes the state of each accepted call": an accepted event passed check 4, so nothing is asked of the state given
+pub accepted-sound : (xs : List ℕ) (s : State) (code : ℕ) → event xs s code .refusal ≡ 0 → sound (event xs s code .state) ≡ true
+accepted-sound xs s code fine =
+    event-sound s (checks-passed s (length xs) code (accepted-passed xs s code fine) .0) xs code
 
 off-sound : sound (atRest 1 0 false) ≡ true
 unfolding figureOf

@@ -1,18 +1,52 @@
--- What a bench takes for a seen rise is one: the select takes SI then. Assumes nothing.
-use Prim.Native.Nat.{ℕ}
-use mathlib.Core.Path.{_≡_, ap, _∙_}
+-- What a bench takes for a seen rise is one: SCK rises, with /HOLD high and a select open, and the select takes SI. No
+-- other event is one, and no other takes a bit. Event 3 by its tests, the others pin by pin. Assumes nothing.
+use Prim.Native.Nat.{ℕ, _/_, _%_}
+use native.Mathlib.Omega.{arith}
+use mathlib.Core.Path.{_≡_, refl, sym, ap, subst, _∙_}
 use mathlib.Core.Bool.{Bool, true, false, cond, not, _&&_}
 use mathlib.Core.List.{List}
-use borrow.Author.Tests.{eqb-true, not-true}
+use borrow.Author.Tests.{eqb-true, eqb-false, not-true}
 use lib.Dec.{eqb}
-use Rattle.parts.specs.TestLaws.{left, right}
+use Rattle.parts.specs.Figures.{figureOf}
+use Rattle.parts.specs.TestLaws.{left, right, choose}
 use Rattle.parts.specs.declared.figures.Figure.{Figure}
+use Rattle.stages.specs.Bits.{fresh}
+use Rattle.stages.specs.Close.{isClosed, drops}
+use Rattle.stages.specs.declared.stage.Stage.{Stage}
+use Rattle.stages.specs.declared.stage.Stage.the-variants.{Closed, Code}
 use Rattle.select.specs.Rise.{rise}
-use Rattle.lines.specs.Edges.{silent, withSck, seenBy, rose, sckRise}
-use Rattle.chip.specs.Event.{accepted, live, dark, step}
-use Rattle.lines.specs.Lines.{holdHigh}
+use Rattle.lines.specs.Edges.{silent, withSck, seenBy, rose, shown, csFall, csRise, sckRise, sckFall, holdFall, holdRise}
+use Rattle.lines.specs.Lines.{holdHigh, csLevel}
+use Rattle.lines.specs.SoundLaws.{closed-is}
 use Rattle.lines.specs.Watch.{isOpen, seesRise}
 use Rattle.lines.specs.declared.state.State.{State}
+use Rattle.lines.specs.declared.state.Moved.{Moved}
+use Rattle.chip.specs.Event.{accepted, csTo, sckTo, holdTo, csStayed, vddTo, live, dark, step, event}
+use Rattle.chip.specs.EventLaws.{accepted-steps}
+use Rattle.chip.specs.declared.event.Answer.{Answer}
+
+-- the stage after an event that takes no bit: as it was, or a select opened or closed, or a fall of SCK
+pub data Unclocked (f : Figure) (xs : List ℕ) (s : State) : Stage → Type 0 where
+  same : Unclocked f xs s (s .stage)
+  opens : Unclocked f xs s (Code fresh)
+  closes : Unclocked f xs s Closed
+  falls : Unclocked f xs s (shown f xs s)
+
+-- SCK was low and is high after this answer, with /HOLD high and a select open
+abbrev pub seenRise : State → Answer → Bool
+seenRise s a = not (s .sck) && a .state .sck && holdHigh (s .hold) && isOpen s
+
+still : (k : Bool) → (not k && k) ≡ false
+still true = refl
+still false = refl
+
+never : (k : Bool) → (k && false) ≡ false
+never true = refl
+never false = refl
+
+choose-on : {A : Type 0} (P : A → Type 0) (t : Bool) {a b : A} → (t ≡ true → P a) → P b → P (cond t a b)
+choose-on P true p q = p refl
+choose-on P false p q = q
 
 module _ (f : Figure) (xs : List ℕ) (s : State) where
   pub rise-seen : (code : ℕ) → seesRise s code ≡ true → step f xs s code ≡ accepted (rose s (rise f (seenBy s) (s .stage)))
@@ -40,3 +74,124 @@ module _ (f : Figure) (xs : List ℕ) (s : State) where
 
       off : holdHigh (s .hold) ≡ true
       off = right (s .power) (holdHigh (s .hold)) both
+
+  -- SCK doesn't rise to this state, and no bit is taken
+  abbrev Passes : State → Type 0
+  Passes t = ((not (s .sck) && t .sck) ≡ false) × Unclocked f xs s (t .stage)
+
+  abbrev Moves : Moved → Type 0
+  Moves m = Passes (m .state)
+
+  abbrev Answers : Answer → Type 0
+  Answers a = Passes (a .state)
+
+  stays : Passes s
+  stays = (still (s .sck), same)
+
+  cs-passes : (level : Bool) → Moves (csTo s level)
+  unfolding csFall csRise
+  cs-passes true =
+      choose Moves (csLevel s) stays
+      (choose Moves (holdHigh (s .hold))
+      (choose Moves (s .latch && drops (s .stage)) (still (s .sck), closes) (still (s .sck), closes))
+      (still (s .sck), same))
+  cs-passes false =
+      choose Moves (csLevel s) (choose Passes (holdHigh (s .hold)) (still (s .sck), opens) (still (s .sck), same)) stays
+
+  sck-passes : Moves (sckTo f xs s false)
+  unfolding sckFall
+  sck-passes =
+      choose Moves (s .sck)
+      (choose Passes (holdHigh (s .hold)) (never (not (s .sck)), falls) (never (not (s .sck)), same))
+      stays
+
+  hold-passes : (level : Bool) → Answers (holdTo s level)
+  unfolding holdFall holdRise
+  hold-passes true =
+      choose Answers (holdHigh (s .hold)) stays
+      (choose Answers (s .sck) stays (choose Answers (csStayed s) (still (s .sck), same) stays))
+  hold-passes false =
+      choose Answers (holdHigh (s .hold)) (choose Answers (s .sck) stays (still (s .sck), same)) stays
+
+  vdd-passes : (level : Bool) → Moves (vddTo s level)
+  vdd-passes true = stays
+  vdd-passes false = (never (not (s .sck)), closes)
+
+  others-pass : (code : ℕ) → eqb code 3 ≡ false → Answers (step f xs s code)
+  unfolding step live
+  others-pass code h =
+      choose Answers (s .power)
+      (choose Answers (eqb (code / 2) 0) (cs-passes level)
+      (choose-on Answers (eqb (code / 2) 1) (λ e. falls-only level refl e)
+      (choose Answers (eqb (code / 2) 2) (still (s .sck), same)
+      (choose Answers (eqb (code / 2) 3) (hold-passes level)
+      (choose Answers (eqb (code / 2) 4) (still (s .sck), same)
+      (vdd-passes level))))))
+      (choose Moves (eqb code 11) (never (not (s .sck)), closes) stays)
+    where
+      level : Bool
+      level = eqb (code % 2) 1
+
+      three : code / 2 ≡ 1 → code % 2 ≡ 1 → code ≡ 3
+      three p q = omega arith
+
+      falls-only : (t : Bool) → eqb (code % 2) 1 ≡ t → eqb (code / 2) 1 ≡ true → Moves (sckTo f xs s t)
+      falls-only true e p = absurd (eqb-false code 3 h (three (eqb-true _ _ p) (eqb-true _ _ e)))
+      falls-only false e p = sck-passes
+
+  -- event 3, by the power, the level of SCK and whether /HOLD is high
+  abbrev raised : Bool → Bool → Bool → Answer
+  raised p k h =
+      cond p
+      (accepted (cond k (silent s) (cond h (rose s (rise f (seenBy s) (s .stage))) (silent (withSck s true)))))
+      (accepted (silent s))
+
+  -- "Each seen rise of SCK in an open select", no more and no less
+  pub rise-exact : (code : ℕ) → seesRise s code ≡ seenRise s (step f xs s code)
+  unfolding seesRise step live sckRise
+  rise-exact code = go (eqb code 3) refl
+    where
+      three : (p k h o : Bool) → s .sck ≡ k → (p && h && o && not k && true) ≡ (not k && raised p k h .state .sck && h && o)
+      three false true h o e = refl
+      three false false h o e = rw e
+      three true true false o e = refl
+      three true true true false e = refl
+      three true true true true e = refl
+      three true false false o e = refl
+      three true false true false e = refl
+      three true false true true e = refl
+
+      go : (t : Bool) → eqb code 3 ≡ t → seesRise s code ≡ seenRise s (step f xs s code)
+      go true e =
+          subst (λ (k : ℕ). seesRise s k ≡ seenRise s (step f xs s k)) (sym (eqb-true code 3 e))
+          (three (s .power) (s .sck) (holdHigh (s .hold)) (isOpen s) refl)
+      go false e =
+          ap (λ (t : Bool). s .power && holdHigh (s .hold) && isOpen s && not (s .sck) && t) e
+          ∙ never (s .power && holdHigh (s .hold) && isOpen s && not (s .sck))
+          ∙ sym (ap (λ (t : Bool). t && holdHigh (s .hold) && isOpen s) (others-pass code e .0))
+
+  -- where it is none, no bit is taken
+  pub unseen-takes-none : (code : ℕ) → seesRise s code ≡ false → Unclocked f xs s (step f xs s code .state .stage)
+  unfolding seesRise isOpen step live sckRise rise
+  unseen-takes-none code = go (eqb code 3) refl
+    where
+      three :
+          (p k h d : Bool) → isClosed (s .stage) ≡ d → (p && h && not d && not k && true) ≡ false
+          → Unclocked f xs s (raised p k h .state .stage)
+      three false k h d e n = same
+      three true true h d e n = same
+      three true false false d e n = same
+      three true false true true e n = rw (closed-is (s .stage) e) closes
+      three true false true false e n = absurd (eqb-false 1 0 refl cc)
+
+      go : (t : Bool) → eqb code 3 ≡ t → seesRise s code ≡ false → Unclocked f xs s (step f xs s code .state .stage)
+      go true e h =
+          rw (eqb-true code 3 e)
+          (three (s .power) (s .sck) (holdHigh (s .hold)) (isClosed (s .stage)) refl (rw (eqb-true code 3 e) at h))
+      go false e h = others-pass code e .1
+
+-- an accepted event is such a step
+pub event-exact :
+    (xs : List ℕ) (s : State) (code : ℕ) → event xs s code .refusal ≡ 0
+    → seesRise s code ≡ seenRise s (event xs s code)
+event-exact xs s code fine = rw (accepted-steps xs s code fine) (rise-exact (figureOf (s .part)) xs s code)

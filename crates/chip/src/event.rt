@@ -1,7 +1,7 @@
 // One event.
 ghost use mathlib.Core.Path.{_≡_};
-ghost use Rattle.chip.specs.Event.{accepted, refused, csTo, sckTo, csStayed, holdTo, vddTo, live, dark, step, checks, event, written};
-ghost use Rattle.chip.specs.Answers.{paper};
+ghost use Rattle.chip.specs.Event.{accepted, refused, csTo, sckTo, csStayed, holdTo, vddTo, live, dark, step, checks, written};
+ghost use Rattle.chip.specs.Promises.{EventPromise};
 use lines::hold::hold_high;
 use lines::sound::sound;
 use lines::state::Moved;
@@ -193,8 +193,7 @@ fn checks(state: State, len: usize, code: u64) -> u8
 
 // One event on the lent array.
 pub fn event(state: State, array: &mut [u8], code: u64) -> Answer
-    ensures { λ r. ⌜ paper r ≡ paper (event (now (array .entry)) state code) ⌝ }
-    ensures { λ r. ⌜ now (array .exit) ≡ written (event (now (array .entry)) state code .note) (now (array .entry)) ⌝ }
+    ensures { λ r. ⌜ EventPromise (now (array .entry)) state code r (now (array .exit)) ⌝ }
 {
     let refusal = checks(state, array.len(), code);
     if refusal != 0 {

@@ -1,7 +1,8 @@
 // Power-up, and a fresh array.
 ghost use mathlib.Core.Path.{_≡_};
 ghost use lib.ListN.{length, replicate};
-ghost use Rattle.chip.specs.Power.{powerRefusal, powerUp, fillRefusal, filled};
+ghost use Rattle.chip.specs.Power.{powerRefusal, powerUp, fillRefusal};
+ghost use Rattle.chip.specs.Promises.{FillPromise};
 use lines::state::State;
 use parts::figures::figure_of;
 use parts::figures::is_part;
@@ -64,8 +65,7 @@ fn fill_with(array: &mut [u8], byte: u8)
 
 // A fresh array. It answers the refusal, or 0.
 pub fn fill(part: u64, array: &mut [u8]) -> u8
-    ensures { λ r. ⌜ r ≡ fillRefusal part (length (now (array .entry))) ⌝ }
-    ensures { λ _. ⌜ now (array .exit) ≡ filled part (now (array .entry)) ⌝ }
+    ensures { λ r. ⌜ FillPromise part (now (array .entry)) r (now (array .exit)) ⌝ }
 {
     let refusal = fill_refusal(part, array.len());
     if refusal == 0 {

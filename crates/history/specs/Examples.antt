@@ -12,7 +12,7 @@ use Rattle.select.specs.declared.notes.Note.the-variants.{Latch, Stored, KeptSe
 use Rattle.chip.specs.Examples.Run.{Example, writes, idle, transfer, wren, same, blank, overlaid}
 use Rattle.chip.specs.Examples.Starred.{starred}
 use Rattle.chip.specs.Examples.Rules.{ofLines, ofCodes, ofOutput, ofWriting, ofGuards, ofHold, rules}
-use Rattle.history.specs.Lines.{put, refused, after, act, acts}
+use Rattle.history.specs.Lines.{put, refusal, after, act, acts}
 use Rattle.history.specs.Transfers.{opened, spans}
 use Rattle.history.specs.Bytes.{value, eights, bytes, topBit, number, address, readAs, reading}
 use Rattle.history.specs.History.{World, storeIf, overlay, keepIf, keepFirst, effect, atLeastOne, drops, spanned, inOrder, history}
@@ -40,5 +40,5 @@ blocksAfter =
     (idle 1 0x0C false false)
 
 pub examples : T (toldAll (blocksAfter ∷ starred ++ rules))
-unfolding clocked starred rules ofLines ofCodes ofOutput ofWriting ofGuards ofHold history inOrder spanned drops atLeastOne effect keepFirst keepIf overlay storeIf reading readAs address number topBit bytes eights value opened spans acts act after refused put figureOf command firstProtected mayStore mayKeep
+unfolding clocked starred rules ofLines ofCodes ofOutput ofWriting ofGuards ofHold history inOrder spanned drops atLeastOne effect keepFirst keepIf overlay storeIf reading readAs address number topBit bytes eights value opened spans acts act after refusal put figureOf command firstProtected mayStore mayKeep
 examples = tt

@@ -48,12 +48,16 @@ holdRises l code = eqb code 7 && not (l .hold)
 abbrev pub csMoved : Lines → Bool
 csMoved l = cond (l .seen) (not (l .cs)) (l .cs)
 
--- 5 "event code 12 or more", 6 "power on, /HOLD would move with SCK high", 7 "power on, /HOLD would rise with /CS moved"
-unfoldable pub refused : Lines → ℕ → Bool
-refused l code =
-    leb 12 code
-    || (l .power && (holdFalls l code || holdRises l code) && l .sck)
-    || (l .power && holdRises l code && csMoved l)
+-- 5 "event code 12 or more", 6 "power on, /HOLD would move with SCK high", 7 "power on, /HOLD would rise with /CS moved"; else 0
+unfoldable pub refusal : Lines → ℕ → ℕ
+refusal l code =
+    cond (leb 12 code) 5
+    (cond (l .power && (holdFalls l code || holdRises l code) && l .sck) 6
+    (cond (l .power && holdRises l code && csMoved l) 7
+    0))
+
+abbrev pub refused : Lines → ℕ → Bool
+refused l code = not (eqb (refusal l code) 0)
 
 -- "refused events count as never sent". "With power off, each event but 11 is accepted and has no effect." Event 10 with
 -- power on gives the off state, "all else is as at power-up"; "Event 11 then gives the power-up state".
@@ -63,6 +67,11 @@ after l code =
     (cond (l .power)
     (cond (eqb code 10) (rest false) (put l code))
     (cond (eqb code 11) (rest true) l))
+
+-- the lines after a list of events
+unfoldable pub afterAll : Lines → List ℕ → Lines
+afterAll l [] = l
+afterAll l (code ∷ codes) = afterAll (after l code) codes
 
 -- a bit: SI as it is taken, with the level of /WP then
 pub record Bit : Type 0 where

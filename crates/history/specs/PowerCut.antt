@@ -8,12 +8,13 @@ use mathlib.Core.Path.{_≡_, ap, _∙_}
 use lib.ListN.{take}
 use Rattle.parts.specs.FigureLaws.{fair}
 use Rattle.lines.specs.declared.state.State.{State}
+use Rattle.chip.specs.Event.{event}
 use Rattle.chip.specs.Power.{powerUp}
 use Rattle.chip.specs.PowerLaws.{power-one, power-masked, power-fits, power-state}
 use Rattle.history.specs.History.{World, history}
-use Rattle.history.specs.Lines.{rest}
+use Rattle.history.specs.Lines.{rest, refusal, afterAll}
 use Rattle.history.specs.Run.{Chip, begun, poweredUp, run, worldOf}
-use Rattle.history.specs.Laws.Moments.{Reached, reached-from, world-told, run-append, cut-leaves}
+use Rattle.history.specs.Laws.Moments.{Reached, reached-from, world-told, run-append, cut-leaves, refusal-as}
 use Rattle.history.specs.Laws.Place.{outside}
 use Rattle.history.specs.Laws.Step.{asleep}
 
@@ -44,3 +45,13 @@ module _ (part kept : ℕ) (array codes : List ℕ) (accepted : powerUp part kep
       ∙ run-append (poweredUp part kept array) (take n codes) (10 ∷ 11 ∷ [])
       ∙ cut-leaves part (fair part (power-one part kept array accepted)) (reached (take n codes) .moment)
       ∙ ap (λ (w : World). poweredUp part (w .kept) (w .array)) (world-told part kept array (take n codes) (reached (take n codes)))
+
+  -- "refused events count as never sent": the history refuses, from the lines alone, exactly what the chip refuses, moment by
+  -- moment and by the same number.
+  pub refused-alike :
+      (code : ℕ)
+      → event (run (begun part kept array) codes .array) (run (begun part kept array) codes .state) code .refusal
+      ≡ refusal (afterAll (rest true) codes) code
+  refused-alike code =
+      ap (λ (c : Chip). event (run c codes .array) (run c codes .state) code .refusal) starts
+      ∙ refusal-as part (fair part (power-one part kept array accepted)) (reached codes .moment) code

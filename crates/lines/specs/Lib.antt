@@ -3,3 +3,4 @@ pub mod Edges
 pub mod Sound
 pub mod Watch
 pub mod SoundLaws
+pub mod StatusLaws

@@ -56,7 +56,7 @@ unfolding sound rests soundStage
 rest-sound part kept true p k = both (both (both p k) refl) refl
 rest-sound part kept false p k = both (both (both p k) refl) refl
 
-closed-is : (stage : Stage) → isClosed stage ≡ true → stage ≡ Closed
+pub closed-is : (stage : Stage) → isClosed stage ≡ true → stage ≡ Closed
 closed-is Closed h = refl
 closed-is (Code shift) h = cc
 closed-is (Upper upper) h = cc

@@ -81,3 +81,8 @@ most = 2048
 pub largest : (part : ℕ) → figureOf part .size ≤ most
 unfolding figureOf every
 largest part = leb-true (figureOf part .size) most (row (λ f. leb (f .size) most) parts refl refl part)
+
+-- "Parts 1 and 2 behave alike.": every rule reads a part's row, and theirs is one
+pub parts-alike : figureOf 1 ≡ figureOf 2
+unfolding figureOf
+parts-alike = refl

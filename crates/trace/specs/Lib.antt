@@ -4,6 +4,7 @@ pub mod Form
 pub mod Number
 pub mod Scan
 pub mod Reader
+pub mod Promises
 pub mod ByteLaws
 pub mod SpellingLaws
 pub mod ScanLaws

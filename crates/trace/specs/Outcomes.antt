@@ -1,5 +1,5 @@
--- Two outcomes that both satisfy a call's promise are the same, for each public call. An answer's number, value and place say which case of its enum it is.
--- Assumes nothing.
+-- Two outcomes that both satisfy a call's promise are the same, for each public call. An answer's number, value and place
+-- say which case of its enum it is. Assumes nothing.
 use mathlib.Core.Path.{_≡_, refl, sym, ap, _∙_}
 use mathlib.Core.Bool.{cond}
 use mathlib.Core.List.{List}
@@ -14,8 +14,8 @@ use Rattle.trace.specs.declared.answer.Written.{Written}
 use Rattle.trace.specs.declared.answer.Written.the-variants as wrote
 use Rattle.trace.specs.declared.reader.Reader.{Reader}
 use Rattle.trace.specs.Answers.{Value, num, end, Told, numberOf, readTold, writtenTold}
-use Rattle.trace.specs.Number.{reading, writing, written}
-use Rattle.trace.specs.Reader.{readerAt, movedOn}
+use Rattle.trace.specs.Promises.{ReadPromise, WritePromise, NextPromise}
+use Rattle.trace.specs.Reader.{readerAt}
 
 -- ---- back from what is told to the answer
 
@@ -56,14 +56,16 @@ pub number-sole : (why : Refusal) (a b : ℕ) → a ≡ numberOf why → b ≡ n
 number-sole why a b p q = p ∙ sym q
 
 -- `read_at` and `number_at`
-pub read-sole : (s : List ℕ) (at : ℕ) (a b : Read) → readTold a ≡ reading s at → readTold b ≡ reading s at → a ≡ b
+pub read-sole : (s : List ℕ) (at : ℕ) (a b : Read) → ReadPromise s at a → ReadPromise s at b → a ≡ b
 read-sole s at a b p q = sym (read-of a) ∙ ap readOf (p ∙ sym q) ∙ read-of b
 
 -- `write_at`: the answer, and the slice at exit
 pub write-sole :
     (s : List ℕ) (at n : ℕ) (a b : Written) (x y : List ℕ)
-    → writtenTold a ≡ writing s at n → x ≡ written s at n → writtenTold b ≡ writing s at n → y ≡ written s at n → (a ≡ b) × (x ≡ y)
-write-sole s at n a b x y p u q v = (sym (written-of a) ∙ ap writtenOf (p ∙ sym q) ∙ written-of b, u ∙ sym v)
+    → WritePromise s at n a x
+    → WritePromise s at n b y
+    → (a ≡ b) × (x ≡ y)
+write-sole s at n a b x y p q = (sym (written-of a) ∙ ap writtenOf (p .0 ∙ sym (q .0)) ∙ written-of b, p .1 ∙ sym (q .1))
 
 -- `open`
 pub open-sole : (s : RefT (List ℕ)) (at : ℕ) (a b : Reader) → a ≡ readerAt s at → b ≡ readerAt s at → a ≡ b
@@ -72,5 +74,7 @@ open-sole s at a b p q = p ∙ sym q
 -- `next`: the answer, and the reader at exit
 pub next-sole :
     (r : Reader) (a b : Read) (x y : Reader)
-    → (readTold a ≡ reading (now (r .src)) (r .at)) × (x ≡ movedOn r) → (readTold b ≡ reading (now (r .src)) (r .at)) × (y ≡ movedOn r) → (a ≡ b) × (x ≡ y)
+    → NextPromise r a x
+    → NextPromise r b y
+    → (a ≡ b) × (x ≡ y)
 next-sole r a b x y p q = (read-sole (now (r .src)) (r .at) a b (p .0) (q .0), p .1 ∙ sym (q .1))

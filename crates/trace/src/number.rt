@@ -6,9 +6,8 @@ ghost use mathlib.Core.Path.{_≡_};
 ghost use Prim.Native.Nat.{_+_, _≤_};
 ghost use lib.ListN.{length};
 ghost use lib.Seq.{sets};
-ghost use Rattle.trace.specs.Answers.{readTold, writtenTold};
 ghost use Rattle.trace.specs.Form.{form};
-ghost use Rattle.trace.specs.Number.{reading, writing, written};
+ghost use Rattle.trace.specs.Promises.{ReadPromise, WritePromise};
 ghost use Rattle.trace.specs.Scan.{scanned};
 
 // The figures of the format: the largest value, and the most groups of seven bits that a number has.
@@ -25,7 +24,7 @@ enum Shape {
 
 // The number at `at`. The checks come in the order 10, (end), 8, 9.
 pub fn read_at(s: &[u8], at: usize) -> Read
-    ensures { λ r. ⌜ readTold r ≡ reading (now (s .entry)) at ⌝ }
+    ensures { λ r. ⌜ ReadPromise (now (s .entry)) at r ⌝ }
 {
     if s.len() < at {
         return unread(Refusal::Beyond, at);
@@ -92,8 +91,7 @@ fn unread(refusal: Refusal, at: usize) -> Read
 
 // Writes `value` at `at`. The checks come in the order 9, 10, 11, and all of them before a byte changes.
 pub fn write_at(s: &mut [u8], at: usize, value: u64) -> Written
-    ensures { λ r. ⌜ writtenTold r ≡ writing (now (s .entry)) at value ⌝ }
-    ensures { λ _. ⌜ now (s .exit) ≡ written (now (s .entry)) at value ⌝ }
+    ensures { λ r. ⌜ WritePromise (now (s .entry)) at value r (now (s .exit)) ⌝ }
 {
     if value > LARGEST {
         return unwritten(Refusal::TooLarge, at);

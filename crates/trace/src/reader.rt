@@ -3,8 +3,8 @@ use crate::answer::Read;
 use crate::number::read_at;
 ghost use mathlib.Core.Path.{_≡_};
 ghost use Rattle.trace.specs.Answers.{readTold};
-ghost use Rattle.trace.specs.Number.{reading};
-ghost use Rattle.trace.specs.Reader.{readerAt, movedOn};
+ghost use Rattle.trace.specs.Promises.{ReadPromise, NextPromise};
+ghost use Rattle.trace.specs.Reader.{readerAt};
 
 pub struct Reader<'a> {
     pub src: &'a [u8],
@@ -20,7 +20,7 @@ pub fn open<'a>(src: &'a [u8], at: usize) -> Reader<'a>
 
 // The next number. Where it is accepted the reader moves on; at a refusal and at the end it stays.
 pub fn next<'s, 'a>(r: &'s mut Reader<'a>) -> Read
-    ensures { λ t. ⌜ (readTold t ≡ reading (now (now (r .entry) .src)) (now (r .entry) .at)) × (now (r .exit) ≡ movedOn (now (r .entry))) ⌝ }
+    ensures { λ t. ⌜ NextPromise (now (r .entry)) t (now (r .exit)) ⌝ }
 {
     let src = r.src;
     let at = r.at;
@@ -44,7 +44,7 @@ fn place_of(found: Read) -> usize
 // The number at a place of a slice, by a reader made for it: what programs call. Its contract says
 // nothing of a reader.
 pub fn number_at(s: &[u8], at: usize) -> Read
-    ensures { λ r. ⌜ readTold r ≡ reading (now (s .entry)) at ⌝ }
+    ensures { λ r. ⌜ ReadPromise (now (s .entry)) at r ⌝ }
 {
     let mut reader = open(s, at);
     next(&mut reader)

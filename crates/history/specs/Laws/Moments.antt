@@ -22,12 +22,13 @@ use Rattle.lines.specs.Sound.{sound}
 use Rattle.lines.specs.declared.hold.Hold.the-variants.{High}
 use Rattle.stages.specs.declared.stage.Stage.the-variants.{Closed}
 use Rattle.lines.specs.declared.state.State.{State}
-use Rattle.history.specs.Lines.{Lines, rest, refused, after, act, acts, passes}
+use Rattle.chip.specs.declared.event.Answer.{Answer}
+use Rattle.history.specs.Lines.{Lines, rest, refusal, after, afterAll, act, acts, passes}
 use Rattle.history.specs.History.{World, history}
 use Rattle.history.specs.Run.{Chip, poweredUp, answered, next, run, worldOf}
 use Rattle.history.specs.Laws.Place.{Place, outside, worldAt, placed, base, from, from-now, from-next}
 use Rattle.history.specs.Laws.Select.{closed, select-world}
-use Rattle.history.specs.Laws.Step.{Agrees, off, on, asleep, offChip, Onward, follows}
+use Rattle.history.specs.Laws.Step.{Agrees, off, on, asleep, offChip, Onward, follows, refuses}
 
 -- what an event writes keeps the array's length
 written-length : (note : Note) (xs : List ℕ) → length (written note xs) ≡ length xs
@@ -54,7 +55,7 @@ same true a = refl
 same false a = refl
 
 unknown-stays : (l : Lines) (code : ℕ) → leb 12 code ≡ true → after l code ≡ l
-unfolding after refused
+unfolding after refusal
 unknown-stays l code e = rw e
 
 unknown-passes : (l : Lines) (code : ℕ) → leb 12 code ≡ true → act l code ≡ passes
@@ -116,6 +117,16 @@ module _ (part : ℕ) (fair : Fair (figureOf part)) {l : Lines} {p : Place} {w :
       go true e = rw (next-stays code e, unknown-stays l code e, unknown-passes l code e) (m .agrees)
       go false e = rw (next-steps code e) (follows part fair code e (m .agrees))
 
+  pub refusal-as : (code : ℕ) → event (c .array) (c .state) code .refusal ≡ refusal l code
+  unfolding refusal
+  refusal-as code = go (leb 12 code) refl
+    where
+      go : (t : Bool) → leb 12 code ≡ t → event (c .array) (c .state) code .refusal ≡ refusal l code
+      go true e = rw (event-unknown (c .array) (c .state) (m .good) own code e, e)
+      go false e =
+          ap (λ (a : Answer). a .refusal) (event-step (c .array) (c .state) (m .good) own code e ∙ steps-own (m .agrees) code)
+          ∙ refuses part code e (m .agrees)
+
   pub moment-next :
       (code : ℕ)
       → Moment part (after l code) (placed p (act l code)) (base (figureOf part) w p (act l code)) (next c code)
@@ -129,22 +140,20 @@ module _ (part : ℕ) (fair : Fair (figureOf part)) {l : Lines} {p : Place} {w :
 
 -- where a run leads
 pub record Reached (part : ℕ) (l : Lines) (p : Place) (w : World) (c : Chip) (codes : List ℕ) : Type 0 where
-  pub lines : Lines
   pub place : Place
   pub before : World
-  pub moment : Moment part lines place before (run c codes)
+  pub moment : Moment part (afterAll l codes) place before (run c codes)
   pub told : from (figureOf part) w p (acts l codes) ≡ worldAt (figureOf part) before place
 
 pub reached :
     (part : ℕ) → Fair (figureOf part) → {l : Lines} {p : Place} {w : World} {c : Chip} → Moment part l p w c → (codes : List ℕ)
     → Reached part l p w c codes
-unfolding run acts
+unfolding run acts afterAll
 reached part fair {l} {p} {w} {c} m [] =
-    record { lines = l; place = p; before = w; moment = m; told = from-now (figureOf part) w p }
+    record { place = p; before = w; moment = m; told = from-now (figureOf part) w p }
 reached part fair {l} {p} {w} {c} m (code ∷ codes) =
     let r = reached part fair (moment-next part fair m code) codes in
     record {
-      lines = r .lines;
       place = r .place;
       before = r .before;
       moment = r .moment;

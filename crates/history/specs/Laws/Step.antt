@@ -20,7 +20,7 @@ use Rattle.lines.specs.Edges.{silent, csFall, csRise, sckRise, sckFall, holdFal
 use Rattle.chip.specs.Event.{accepted, csStayed, live, step, written}
 use Rattle.lines.specs.declared.hold.Hold.{Hold}
 use Rattle.lines.specs.declared.hold.Hold.the-variants.{High, LowCsLow, LowCsHigh}
-use Rattle.history.specs.Lines.{Lines, rest, put, refused, after, act}
+use Rattle.history.specs.Lines.{Lines, rest, put, refusal, after, act}
 use Rattle.history.specs.History.{World}
 use Rattle.history.specs.Run.{Chip, answered}
 use Rattle.history.specs.Laws.Place.{Place, outside, inside, isOutside, worldAt, placed, base}
@@ -108,7 +108,7 @@ module _ (part : ℕ) (fair : Fair (figureOf part)) where
         → Follows (linesOf sck si wp hold (isOutside p)) p w (chipOf part v sck si wp hold stage) code
 
     cs-low : After 0
-    unfolding after refused put act placed base worldAt step live csFall written
+    unfolding after refusal put act placed base worldAt step live csFall written
     cs-low sck High _ _ _ closed = on (inside []) w w sck si wp High _ (select-fresh (figureOf part) w)
     cs-low sck High _ _ _ (going bs whole r v stage c e) =
         let s = going bs whole r v stage c e in
@@ -132,7 +132,7 @@ module _ (part : ℕ) (fair : Fair (figureOf part)) where
     closing sck false false kept array = on outside _ _ sck si wp High Closed closed
 
     cs-high : After 1
-    unfolding after refused put act placed base step live csRise written
+    unfolding after refusal put act placed base step live csRise written
     cs-high sck High _ _ _ closed = on outside w w sck si wp High Closed closed
     cs-high sck High _ _ _ (going bs whole r v stage c e) =
         let s = going bs whole r v stage c e in
@@ -142,7 +142,7 @@ module _ (part : ℕ) (fair : Fair (figureOf part)) where
     cs-high sck LowCsHigh p v stage s = on p w v sck si wp LowCsHigh stage s
 
     sck-low : After 2
-    unfolding after refused put act placed base step live sckFall written
+    unfolding after refusal put act placed base step live sckFall written
     sck-low true High p v stage s =
         on p w v false si wp High _ (select-fall (figureOf part) w (v .array) (statusByte (v .kept) (v .latch)) s)
     sck-low true LowCsLow p v stage s = on p w v false si wp LowCsLow stage s
@@ -150,7 +150,7 @@ module _ (part : ℕ) (fair : Fair (figureOf part)) where
     sck-low false hold p v stage s = on p w v false si wp hold stage s
 
     sck-high : After 3
-    unfolding after refused put act placed base step live sckRise rise written
+    unfolding after refusal put act placed base step live sckRise rise written
     sck-high false High _ _ _ closed = on outside w w true si wp High Closed closed
     sck-high false High _ _ _ (going bs whole r v stage c e) =
         let s = going bs whole r v stage c e in
@@ -160,15 +160,15 @@ module _ (part : ℕ) (fair : Fair (figureOf part)) where
     sck-high true hold p v stage s = on p w v true si wp hold stage s
 
     si-low : After 4
-    unfolding after refused put act placed base step live written
+    unfolding after refusal put act placed base step live written
     si-low sck hold p v stage s = on p w v sck false wp hold stage s
 
     si-high : After 5
-    unfolding after refused put act placed base step live written
+    unfolding after refusal put act placed base step live written
     si-high sck hold p v stage s = on p w v sck true wp hold stage s
 
     hold-low : After 6
-    unfolding after refused put act placed base step live holdFall written
+    unfolding after refusal put act placed base step live holdFall written
     hold-low true High p v stage s = on p w v true si wp High stage s
     hold-low false High _ _ _ closed = on outside w w false si wp LowCsHigh Closed closed
     hold-low false High _ _ _ (going bs whole r v stage c e) =
@@ -178,7 +178,7 @@ module _ (part : ℕ) (fair : Fair (figureOf part)) where
     hold-low sck LowCsHigh p v stage s = on p w v sck si wp LowCsHigh stage s
 
     hold-high : After 7
-    unfolding after refused put act placed base step live csStayed holdRise written
+    unfolding after refusal put act placed base step live csStayed holdRise written
     hold-high sck High p v stage s = on p w v sck si wp High stage s
     hold-high true LowCsLow p v stage s = on p w v true si wp LowCsLow stage s
     hold-high true LowCsHigh p v stage s = on p w v true si wp LowCsHigh stage s
@@ -192,19 +192,19 @@ module _ (part : ℕ) (fair : Fair (figureOf part)) where
         rw (select-open (figureOf part) w s) (on (inside bs) w v false si wp LowCsHigh stage s)
 
     wp-low : After 8
-    unfolding after refused put act placed base step live written
+    unfolding after refusal put act placed base step live written
     wp-low sck hold p v stage s = on p w v sck si false hold stage s
 
     wp-high : After 9
-    unfolding after refused put act placed base step live written
+    unfolding after refusal put act placed base step live written
     wp-high sck hold p v stage s = on p w v sck si true hold stage s
 
     vdd-low : After 10
-    unfolding after refused put act placed base step live written
+    unfolding after refusal put act placed base step live written
     vdd-low sck hold p v stage s = rw (← select-world (figureOf part) w s) (off (v .kept) (v .array))
 
     vdd-high : After 11
-    unfolding after refused put act placed base step live written
+    unfolding after refusal put act placed base step live written
     vdd-high sck hold p v stage s = on p w v sck si wp hold stage s
 
     any-pin : (code : ℕ) → leb 12 code ≡ false → After code
@@ -218,7 +218,7 @@ module _ (part : ℕ) (fair : Fair (figureOf part)) where
   darkness :
       (kept : ℕ) (array : List ℕ) (code : ℕ) → leb 12 code ≡ false
       → Follows (rest false) outside (asleep kept array) (offChip part kept array) code
-  unfolding after refused act placed base step written
+  unfolding after refusal act placed base step written
   darkness kept array code h = go (eqb code 11) refl
     where
       go : (t : Bool) → eqb code 11 ≡ t → Follows (rest false) outside (asleep kept array) (offChip part kept array) code
@@ -230,3 +230,43 @@ module _ (part : ℕ) (fair : Fair (figureOf part)) where
       → Follows l p w c code
   follows code h (off kept array) = darkness kept array code h
   follows code h (on p w v sck si wp hold stage s) = any-pin w si wp code h sck hold p v stage s
+
+-- The chip refuses what the lines say is refused, by the same number: with power on only a move of /HOLD.
+module _ (part : ℕ) where
+  abbrev Refuses : Lines → Chip → ℕ → Type 0
+  Refuses l c code = step (figureOf part) (c .array) (c .state) code .refusal ≡ refusal l code
+
+  module _ (p : Place) (v : World) (si wp : Bool) (stage : Stage) where
+    abbrev Alike : Bool → Hold → ℕ → Type 0
+    Alike sck hold code = Refuses (linesOf sck si wp hold (isOutside p)) (chipOf part v sck si wp hold stage) code
+
+    fall-alike : (sck : Bool) (hold : Hold) → Alike sck hold 6
+    unfolding refusal step live
+    fall-alike true High = refl
+    fall-alike false High = refl
+    fall-alike sck LowCsLow = refl
+    fall-alike sck LowCsHigh = refl
+
+  rise-alike :
+      {p : Place} {w v : World} (si wp : Bool) {stage : Stage} (sck : Bool) (hold : Hold) → Selected (figureOf part) w p v stage
+      → Alike p v si wp stage sck hold 7
+  unfolding refusal step live csStayed
+  rise-alike si wp sck High s = refl
+  rise-alike si wp true LowCsLow s = refl
+  rise-alike si wp true LowCsHigh s = refl
+  rise-alike si wp false LowCsLow closed = refl
+  rise-alike si wp false LowCsHigh closed = refl
+  rise-alike {w = w} si wp false LowCsLow (going bs whole r v stage c e) =
+      rw (select-open (figureOf part) w (going bs whole r v stage c e))
+  rise-alike {w = w} si wp false LowCsHigh (going bs whole r v stage c e) =
+      rw (select-open (figureOf part) w (going bs whole r v stage c e))
+
+  pub refuses : {l : Lines} {p : Place} {w : World} {c : Chip} (code : ℕ) → leb 12 code ≡ false → Agrees part l p w c → Refuses l c code
+  unfolding refusal step live
+  refuses code h (off kept array) = rw h
+  refuses code h (on p w v sck si wp hold stage s) =
+      each (Alike p v si wp stage sck hold) 12 0 code
+      (refl also refl also refl also refl also refl also refl
+      also fall-alike p v si wp stage sck hold also rise-alike si wp sck hold s
+      also refl also refl also refl also refl also tt)
+      zero-le (leb-false 12 code h)

@@ -2,7 +2,7 @@
 use mathlib.Core.Path.{sym, _∙_}
 use native.Mathlib.Nat.{lt-of-lt-of-le}
 use lib.Dec.{lit≤}
-use Rattle.chip.specs.EventLaws.{checks-known}
+use Rattle.chip.specs.EventLaws.{checks-passed}
 use Rattle.chip.specs.Event.{event, written}
 use borrow.Author.Tests.{ne-eqb}
 use borrow.Author.Needs.{needs}
@@ -27,7 +27,7 @@ figure-of-requires c κs = search needs
 
 cast-step : tie.Need-cast-step
 cast-step c =
-    record { fits = lt-of-lt-of-le (checks-known _ _ _ (sym (c .before .before .before .before .checks .ensures) ∙ c .before .before .before .if1 .left)) (lit≤ tt) }
+    record { fits = lt-of-lt-of-le (checks-passed _ _ _ (sym (c .before .before .before .before .checks .ensures) ∙ c .before .before .before .if1 .left) .2) (lit≤ tt) }
 
 step-requires : tie.Need-step-requires
 step-requires c κs = search needs

@@ -47,9 +47,9 @@ use denote.Triple.Table.{entered, cited}
 use denote.Triple.Walked.{says, Stays, stay-none, stay-none-slice, walkOf, goes-none, goes-none-slice, Walks, ends-at, walked, walk-meets}
 use denote.Exit.{yes}
 use borrow.Within.Token.{Rest, within-token, within-end}
-use Rattle.trace.specs.Answers.{readTold}
 use Rattle.trace.specs.Number.{reading}
-use Rattle.trace.specs.Reader.{readerAt, movedOn}
+use Rattle.trace.specs.Promises.{ReadPromise, NextPromise}
+use Rattle.trace.specs.Reader.{readerAt}
 use Rattle.trace.specs.declared.answer.Read.{Read}
 use Rattle.trace.specs.declared.reader.Reader.{Reader}
 use Rattle.trace.proofs.reader.Reader as T
@@ -153,14 +153,10 @@ module _ {M : Type 1} (𝓤 : URA M) (H : Heap 𝓤) (A : Atoms 𝓤) (W : Given
       qed W (‵ (flft (ν ∷ κ) qₗ) ∷ ‵ (flft κ qᵣ) ∷ ‵ (MutRef (named 0) (ν ∷ κ) R .own (lent r l γ .0) (vptr l 0 ∷ [])) ∷ []) ∵
       nothing ! $ move ! (3 ∷ 0 ∷ []) $ fjoin ! $ nothing ! $ move ! (3 ∷ 0 ∷ []) $ join ! $ move ! (2 ∷ 0 ∷ []) $ join ! $ join ! $ frame ! $ done !
 
-  -- what `next` ensures, at the struct w that it left
-  abbrev Said : Reader → Read → Reader → Type 0
-  Said r t w = (readTold t ≡ reading (now (r .src)) (r .at)) × (w ≡ movedOn r)
-
   answer : (t : Read) (u : Val) → Is S.the-row t (u ∷ []) → Holds (hasTy S′.mir u) × WT u
   answer t u is = EL.lawful S.the-type S′.the-laws 𝓤 H A W tt .typed t _ is .0
 
-  exits : (t : Read) (u : Val) → readTold t ≡ reading (now s) n → ent 𝓤 (⋆ 𝓤 H A (‵ (S.the-row .own t (u ∷ [])) ∷ (‵ (flft κ q) ⊛ ‵ ftrue) ∷ ‵ Own ∷ [])) (Post u)
+  exits : (t : Read) (u : Val) → ReadPromise (now s) n t → ent 𝓤 (⋆ 𝓤 H A (‵ (S.the-row .own t (u ∷ [])) ∷ (‵ (flft κ q) ⊛ ‵ ftrue) ∷ ‵ Own ∷ [])) (Post u)
   exits t u e =
       qed W (‵ (S.the-row .own t (u ∷ [])) ∷ (‵ (flft κ q) ⊛ ‵ ftrue) ∷ ‵ Own ∷ []) ∵
       suffices ! _ (ends-at 𝓤 H A number-at.ended stayed (number-at.clauses 𝓤 H A at-mem run) W (((κ, tt), (q, tt), tt, (s, (n, tt)), at), tt) u t (tt, (tt, tt)) (tt, (tt, tt))) $ says ! e $
@@ -189,8 +185,8 @@ module _ {M : Type 1} (𝓤 : URA M) (H : Heap 𝓤) (A : Atoms 𝓤) (W : Given
         -- [the token of ν within κ; the way back; the other half; true; the reference; the lender's part; what s owns; _5; …]
         move ! (0 ∷ 2 ∷ 4 ∷ []) $ use3 W (raw (Next 𝓤 H A at-mem run .pre (to-next ν r l₃ γ))) (goes-next ν r l₃ γ) $
         calls-at ! fm (Next 𝓤 H A at-mem run) known-next (to-next ν r l₃ γ) (and-then ! (load ! (from ! (stop !)) (look ! 5 refl)) (no-more !)) (λ u′.
-        use1 W (later (some (λ (t : Read). ((‵ (flft (ν ∷ κ) qₗ) ⊛ ‵ (flft κ qᵣ) ⊛ ‵ ftrue) ⊛ ‵ (S.the-row .own t (u′ ∷ []))) ⊛ some (λ (ws : Reader × Unit {0}). ‵ (lasts next.ended (ν ∷ κ, (κ, tt)) (lent r l₃ γ) ws) ⊛ raw (fact 𝓤 (Said r t (ws .0))))))) (id⊢ 𝓤 _) $ await ! tt $ pick ! (λ t.
-        split ! $ move ! (1 ∷ []) $ pick ! (λ ws. split ! $ move ! (1 ∷ []) $ heard ! (Said r t (ws .0)) (λ f. fsplit ! $ move ! (2 ∷ []) $ split ! $ split ! $
+        use1 W (later (some (λ (t : Read). ((‵ (flft (ν ∷ κ) qₗ) ⊛ ‵ (flft κ qᵣ) ⊛ ‵ ftrue) ⊛ ‵ (S.the-row .own t (u′ ∷ []))) ⊛ some (λ (ws : Reader × Unit {0}). ‵ (lasts next.ended (ν ∷ κ, (κ, tt)) (lent r l₃ γ) ws) ⊛ raw (fact 𝓤 (NextPromise r t (ws .0))))))) (id⊢ 𝓤 _) $ await ! tt $ pick ! (λ t.
+        split ! $ move ! (1 ∷ []) $ pick ! (λ ws. split ! $ move ! (1 ∷ []) $ heard ! (NextPromise r t (ws .0)) (λ f. fsplit ! $ move ! (2 ∷ []) $ split ! $ split ! $
         -- [the token of ν within κ; the other half; the answer; the local's last value; …; the way back; …; the lender's part; what s owns; _5; …]
         move ! (0 ∷ 5 ∷ []) $ use2 W (later (‵ (fdead (ν ∷ κ)) ⊛ ‵ (flft κ qₗ))) (within-end 𝓤 H A W ν κ qₗ) $ await ! tt $ split ! $
         move ! (2 ∷ []) $ split ! $ move ! (3 ∷ 0 ∷ []) $ use2 W (‵ (flft κ q)) (W .lfts .lft-join κ q) $ join ! $
