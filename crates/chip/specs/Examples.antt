@@ -10,10 +10,10 @@ use Rattle.parts.specs.Commands.{command}
 use Rattle.parts.specs.Guards.{firstProtected, mayStore, mayKeep}
 use Rattle.stages.specs.Address.{afterCode, afterAddress, nextAddress}
 use Rattle.stages.specs.Bits.{takeBit, bitOf}
-use Rattle.select.specs.Fall.{shows, afterByte, fall}
+use Rattle.select.specs.Fall.{showArray, showStatus, fall}
 use Rattle.select.specs.Notes.{NoteNumbers, levelNumber, noteNumbers}
 use Rattle.select.specs.Rise.{opened, codeRise, upperRise, lowerRise, writeRise, keepRise, rise}
-use Rattle.stages.specs.Sound.{soundShift, soundStage}
+use Rattle.stages.specs.Sound.{soundStage}
 use Rattle.lines.specs.Edges.{csFall, csRise, sckRise, sckFall, holdFall, holdRise}
 use Rattle.chip.specs.Event.{csStayed, live, step, checks, event, written}
 use Rattle.lines.specs.Lines.{atRest, soLevel}
@@ -272,5 +272,5 @@ starred =
     ∷ []
 
 examples : T (all starred)
-unfolding clocked clockAll transfer clocks wren noted answered run same driven bits bitsOf stored fresh ends holds all latchOn latchOff starred figureOf command firstProtected mayStore mayKeep afterCode afterAddress nextAddress takeBit bitOf shows afterByte fall opened codeRise upperRise lowerRise writeRise keepRise rise soundShift soundStage csFall csRise sckRise sckFall holdFall holdRise csStayed live step checks event written rests sound isOpen seesRise
+unfolding clocked clockAll transfer clocks wren noted answered run same driven bits bitsOf stored fresh ends holds all latchOn latchOff starred figureOf command firstProtected mayStore mayKeep afterCode afterAddress nextAddress takeBit bitOf showArray showStatus fall opened codeRise upperRise lowerRise writeRise keepRise rise soundStage csFall csRise sckRise sckFall holdFall holdRise csStayed live step checks event written rests sound isOpen seesRise
 examples = tt
