@@ -10,8 +10,8 @@ use Rattle.parts.specs.Figures.{figureOf}
 use Rattle.parts.specs.Commands.{command}
 use Rattle.stages.specs.Address.{afterCode}
 use Rattle.stages.specs.Bits.{takeBit, bitOf}
-use Rattle.stages.specs.Sound.{soundShift, soundStage}
-use Rattle.select.specs.Fall.{shows, afterByte, fall}
+use Rattle.stages.specs.Sound.{soundStage}
+use Rattle.select.specs.Fall.{showArray, showStatus, fall}
 use Rattle.select.specs.Rise.{opened, codeRise, rise}
 use Rattle.lines.specs.Edges.{csFall, csRise, sckRise, sckFall}
 use Rattle.lines.specs.Sound.{sound}
@@ -125,5 +125,5 @@ traces =
     ∷ []
 
 examples : T (all traces)
-unfolding equal ends holds all traces figureOf command afterCode takeBit bitOf shows afterByte fall opened codeRise rise soundShift soundStage csFall csRise sckRise sckFall live step checks event written sound isOpen seesRise reading fillRefusal filled powerRefusal powerUp clocked itemEvents counted codeAfter sampled risen shownAfter noted leading headOf afterEvent afterItem itemsFrom ranFrom started ran replayed clockedBy shownBy after
+unfolding equal ends holds all traces figureOf command afterCode takeBit bitOf showArray showStatus fall opened codeRise rise soundStage csFall csRise sckRise sckFall live step checks event written sound isOpen seesRise reading fillRefusal filled powerRefusal powerUp clocked itemEvents counted codeAfter sampled risen shownAfter noted leading headOf afterEvent afterItem itemsFrom ranFrom started ran replayed clockedBy shownBy after
 examples = tt

@@ -8,8 +8,8 @@ use Rattle.parts.specs.Guards.{firstProtected, mayStore, mayKeep}
 use Rattle.stages.specs.Address.{afterCode, afterAddress, nextAddress}
 use Rattle.stages.specs.Bits.{takeBit, bitOf}
 use Rattle.stages.specs.Clocked.{clocked}
-use Rattle.stages.specs.Sound.{soundShift, soundStage}
-use Rattle.select.specs.Fall.{shows, afterByte, fall}
+use Rattle.stages.specs.Sound.{soundStage}
+use Rattle.select.specs.Fall.{showArray, showStatus, fall}
 use Rattle.select.specs.Rise.{opened, codeRise, upperRise, lowerRise, writeRise, keepRise, rise}
 use Rattle.lines.specs.Edges.{csFall, csRise, sckRise, sckFall, holdFall, holdRise}
 use Rattle.lines.specs.Sound.{rests, sound}
@@ -26,13 +26,13 @@ pub mod Rules
 pub mod Calls
 
 pub starred-hold : T (all starred)
-unfolding clocked starred figureOf command firstProtected mayStore mayKeep afterCode afterAddress nextAddress takeBit bitOf shows afterByte fall opened codeRise upperRise lowerRise writeRise keepRise rise soundShift soundStage csFall csRise sckRise sckFall holdFall holdRise csStayed live step checks event written rests sound isOpen seesRise fillRefusal filled powerRefusal powerUp
+unfolding clocked starred figureOf command firstProtected mayStore mayKeep afterCode afterAddress nextAddress takeBit bitOf showArray showStatus fall opened codeRise upperRise lowerRise writeRise keepRise rise soundStage csFall csRise sckRise sckFall holdFall holdRise csStayed live step checks event written rests sound isOpen seesRise fillRefusal filled powerRefusal powerUp
 starred-hold = tt
 
 pub rules-hold : T (all rules)
-unfolding clocked rules ofLines ofCodes ofOutput ofWriting ofGuards ofHold figureOf command firstProtected mayStore mayKeep afterCode afterAddress nextAddress takeBit bitOf shows afterByte fall opened codeRise upperRise lowerRise writeRise keepRise rise soundShift soundStage csFall csRise sckRise sckFall holdFall holdRise csStayed live step checks event written rests sound isOpen seesRise fillRefusal filled powerRefusal powerUp
+unfolding clocked rules ofLines ofCodes ofOutput ofWriting ofGuards ofHold figureOf command firstProtected mayStore mayKeep afterCode afterAddress nextAddress takeBit bitOf showArray showStatus fall opened codeRise upperRise lowerRise writeRise keepRise rise soundStage csFall csRise sckRise sckFall holdFall holdRise csStayed live step checks event written rests sound isOpen seesRise fillRefusal filled powerRefusal powerUp
 rules-hold = tt
 
 pub calls-hold : T (allRefused refused && allPowered powered && allFilled fillings)
-unfolding refused powered fillings figureOf soundShift soundStage live step checks event rests sound fillRefusal filled powerRefusal powerUp
+unfolding refused powered fillings figureOf soundStage live step checks event rests sound fillRefusal filled powerRefusal powerUp
 calls-hold = tt

@@ -10,13 +10,13 @@ use Rattle.parts.specs.Figures.{figureOf, isPart, inMask}
 use Rattle.parts.specs.TestLaws.{both, left, right, choose}
 use Rattle.stages.specs.Close.{isClosed, drops}
 use Rattle.select.specs.Fall.{statusByte}
-use Rattle.stages.specs.Sound.{soundStage, soundShift}
+use Rattle.stages.specs.Sound.{soundStage}
 use Rattle.select.specs.SoundLaws.{rise-sound, rise-masked, fall-sound}
 use Rattle.lines.specs.Edges.{seenBy, csFall, csRise, sckRise, sckFall}
 use Rattle.lines.specs.Lines.{atRest, holdHigh}
 use Rattle.lines.specs.Sound.{rests, sound}
 use Rattle.stages.specs.declared.stage.Stage.{Stage}
-use Rattle.stages.specs.declared.stage.Stage.the-variants.{Closed, Code, Upper, Lower, Ready, Showing, Writing, Keeping, Over}
+use Rattle.stages.specs.declared.stage.Stage.the-variants.{Closed, Code, Upper, Lower, Ready, ArrayOut, StatusOut, Writing, Keeping, Over}
 use Rattle.lines.specs.declared.hold.Hold.{Hold}
 use Rattle.lines.specs.declared.hold.Hold.the-variants.{High, LowCsLow, LowCsHigh}
 use Rattle.lines.specs.declared.state.State.{State}
@@ -59,13 +59,14 @@ rest-sound part kept false p k = both (both (both p k) refl) refl
 pub closed-is : (stage : Stage) → isClosed stage ≡ true → stage ≡ Closed
 closed-is Closed h = refl
 closed-is (Code shift) h = cc
-closed-is (Upper upper) h = cc
-closed-is (Lower lower) h = cc
-closed-is (Ready source) h = cc
-closed-is (Showing shown) h = cc
-closed-is (Writing w) h = cc
+closed-is (Upper purpose shift) h = cc
+closed-is (Lower purpose shift page) h = cc
+closed-is (Ready what at) h = cc
+closed-is (ArrayOut level bit at) h = cc
+closed-is (StatusOut level bit) h = cc
+closed-is (Writing came shift at) h = cc
 closed-is (Keeping shift) h = cc
-closed-is (Over whole) h = cc
+closed-is (Over end) h = cc
 
 high-is : (hold : Hold) → holdHigh hold ≡ true → hold ≡ High
 high-is High h = refl
@@ -112,7 +113,7 @@ module _ (s : State) (h : sound s ≡ true) (on : s .power ≡ true) where
   staged next p q k t = good-sound next (p ∙ on) (record { part = rw q (g .part); kept = rw (q, k) (g .kept); stage = rw q t })
 
   pub cs-fall : Keeps (csFall s)
-  unfolding csFall soundStage soundShift
+  unfolding csFall soundStage
   cs-fall = choose Sound (holdHigh (s .hold)) (staged _ refl refl refl refl) (kept-on _ refl refl refl refl)
 
   pub cs-rise : Keeps (csRise s)

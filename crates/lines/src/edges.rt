@@ -12,7 +12,7 @@ use select::fall::status_byte;
 use select::notes::Note;
 use select::rise::Seen;
 use select::rise::rise;
-use stages::bits::no_bits;
+use stages::bits::NO_BITS;
 use stages::close::drops;
 use stages::stage::Stage;
 
@@ -34,7 +34,7 @@ impl State {
         let hold = self.hold;
         if hold_high(hold) {
             let state = State {
-                stage: Stage::Code(no_bits()),
+                stage: Stage::Code { shift: NO_BITS },
                 ..self
             };
             Moved {

@@ -1,10 +1,11 @@
 -- A select's record, event by event. `RecordLaws` has its counts over a whole select. Assumes nothing.
-use Prim.Native.Nat.{ℕ, _+_}
+use Prim.Native.Nat.{ℕ, _+_, _*_, _%_}
 use mathlib.Core.Bool.{Bool, true, false, cond}
 use mathlib.Core.List.{List}
+use lib.Bits.{bitOr}
 use lib.Dec.{leb, ltb}
 use lib.ListN.{set}
-use Rattle.stages.specs.Bits.{shifted, takeBit}
+use Rattle.stages.specs.Bits.{lowBit, takeBit}
 use Rattle.stages.specs.Bits.{fresh as noBits}
 use Rattle.stages.specs.declared.bits.Taken.{Taken}
 use Rattle.stages.specs.declared.bits.Taken.the-variants.{Part, Whole}
@@ -12,7 +13,6 @@ use Rattle.select.specs.declared.notes.Level.{Level}
 use Rattle.select.specs.declared.notes.Level.the-variants.{Low, High, Released}
 use Rattle.select.specs.declared.notes.Note.{Note}
 use Rattle.select.specs.declared.notes.Note.the-variants.{Nothing, Latch, Stored, HeldBack, KeptSet, KeptHeldBack, PowerLost}
-use Rattle.stages.specs.declared.stage.Shift.{Shift}
 use Rattle.report.specs.declared.record.Record.{Record}
 
 -- one more, up to the largest number that a count can hold
@@ -29,10 +29,10 @@ codeClocks = 8
 
 -- "op-code .. or "--" under eight clocks"
 unfoldable pub codeAfter : ℕ → ℕ → Bool → ℕ
-codeAfter clocks code si = cond (leb codeClocks clocks) code (shifted code si)
+codeAfter clocks code si = cond (leb codeClocks clocks) code (bitOr (code * 2 % 256) (lowBit si))
 
 -- "SO sampled before each seen rise while driven"
-unfoldable pub sampled : Shift → Level → Taken
+unfoldable pub sampled : ℕ → Level → Taken
 sampled bits Low = takeBit bits false
 sampled bits High = takeBit bits true
 sampled bits Released = Part bits

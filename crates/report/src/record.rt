@@ -3,18 +3,17 @@ ghost use mathlib.Core.Path.{_≡_};
 ghost use Rattle.report.specs.Record.{counted, sampled, codeAfter, keptAt, fresh, risen, shownAfter, noted};
 use select::notes::Level;
 use select::notes::Note;
+use stages::bits::NO_BITS;
 use stages::bits::Taken;
-use stages::bits::no_bits;
 use stages::bits::take_bit;
-use stages::stage::Shift;
 
 pub struct Record {
     // Seen rises.
     pub clocks: u64,
     // The op-code's bits, as far as they came, the newest lowest.
     pub code: u8,
-    // The bits of SO that are no whole byte yet, and how many whole bytes there were.
-    pub sample: Shift,
+    // The bits of SO that are no whole byte yet, with a 1 before them, and how many whole bytes there were.
+    pub sample: u16,
     pub shown: u64,
     // Stored notes.
     pub stored: u64,
@@ -28,7 +27,7 @@ pub fn count(n: u64) -> u64
 }
 
 // SO's bits with one more, where SO is driven.
-fn sample(bits: Shift, so: Level) -> Taken
+fn sample(bits: u16, so: Level) -> Taken
     ensures { λ r. ⌜ r ≡ sampled bits so ⌝ }
 {
     match so {
@@ -65,7 +64,7 @@ impl Record {
         Record {
             clocks: 0,
             code: 0,
-            sample: no_bits(),
+            sample: NO_BITS,
             shown: 0,
             stored: 0,
         }
@@ -90,7 +89,7 @@ impl Record {
                 Record {
                     clocks,
                     code,
-                    sample: no_bits(),
+                    sample: NO_BITS,
                     shown: count(self.shown),
                     stored: self.stored,
                 }

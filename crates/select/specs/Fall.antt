@@ -1,7 +1,7 @@
 -- A seen fall of SCK: "Output moves on a seen fall of SCK once the header (op-code, and address for READ) is whole."
 -- Assumes nothing.
 use Prim.Native.Nat.{ℕ, _-_}
-use mathlib.Core.Bool.{Bool, false, cond}
+use mathlib.Core.Bool.{Bool, cond}
 use mathlib.Core.List.{List}
 use lib.ListN.{getD}
 use lib.Dec.{eqb}
@@ -11,54 +11,55 @@ use Rattle.stages.specs.Bits.{bitOf}
 use Rattle.stages.specs.Address.{nextAddress}
 use Rattle.select.specs.declared.notes.Level.{Level}
 use Rattle.select.specs.declared.notes.Level.the-variants.{Low, High, Released}
-use Rattle.stages.specs.declared.stage.Source.{Source}
-use Rattle.stages.specs.declared.stage.Source.the-variants.{Array, Status}
+use Rattle.stages.specs.declared.stage.End.the-variants.{Quiet}
+use Rattle.stages.specs.declared.stage.Line.{Line}
+use Rattle.stages.specs.declared.stage.Line.the-variants.{Down, Up}
+use Rattle.stages.specs.declared.stage.What.the-variants.{Array, Status}
 use Rattle.stages.specs.declared.stage.Stage.{Stage}
-use Rattle.stages.specs.declared.stage.Stage.the-variants.{Closed, Code, Upper, Lower, Ready, Showing, Writing, Keeping, Over}
+use Rattle.stages.specs.declared.stage.Stage.the-variants.{Closed, Code, Upper, Lower, Ready, ArrayOut, StatusOut, Writing, Keeping, Over}
 
 -- "Status byte: bit 7 WPEN (part 3; 0 on parts 1 and 2), bits 3 and 2 BP1 and BP0, bit 1 the latch, the rest 0."
 -- The kept bits lie under the part's mask, so the rest is 0.
 abbrev pub statusByte : ℕ → Bool → ℕ
 statusByte kept latch = cond latch (bitOr kept 2) kept
 
-abbrev pub byteShown : List ℕ → ℕ → Source → ℕ
-byteShown xs status (Array at) = getD xs at 0
-byteShown xs status Status = status
-
 -- "READ shows the byte at the address, each bit from the array as lent at its fall"
-unfoldable pub shows : List ℕ → ℕ → Source → ℕ → Stage
-shows xs status source bit =
-    Showing (record { source = source; bit = bit; level = bitOf (byteShown xs status source) bit })
+unfoldable pub showArray : List ℕ → ℕ → ℕ → Stage
+showArray xs at bit = ArrayOut (bitOf (getD xs at 0) bit) bit at
 
--- "bit 7 first, then the next address, rolling from the last to 0. RDSR shows the status byte once; the fall after its
---  eighth bit's rise releases SO (H)."
-unfoldable pub afterByte : Figure → List ℕ → ℕ → Source → Stage
-afterByte f xs status (Array at) = shows xs status (Array (nextAddress f at)) 7
-afterByte f xs status Status = Over false
+unfoldable pub showStatus : ℕ → ℕ → Stage
+showStatus status bit = StatusOut (bitOf status bit) bit
 
--- "once the header is whole": before that, and where nothing is shown, a fall does nothing
+-- "once the header is whole": before that, and where nothing is shown, a fall does nothing. "bit 7 first, then the next
+--  address, rolling from the last to 0. RDSR shows the status byte once; the fall after its eighth bit's rise releases
+--  SO (H)."
 unfoldable pub fall : Figure → List ℕ → ℕ → Stage → Stage
 fall f xs status Closed = Closed
 fall f xs status (Code shift) = Code shift
-fall f xs status (Upper upper) = Upper upper
-fall f xs status (Lower lower) = Lower lower
-fall f xs status (Ready source) = shows xs status source 7
-fall f xs status (Showing shown) =
-    cond (eqb (shown .bit) 0)
-    (afterByte f xs status (shown .source))
-    (shows xs status (shown .source) (shown .bit - 1))
-fall f xs status (Writing w) = Writing w
+fall f xs status (Upper purpose shift) = Upper purpose shift
+fall f xs status (Lower purpose shift page) = Lower purpose shift page
+fall f xs status (Ready Array at) = showArray xs at 7
+fall f xs status (Ready Status at) = showStatus status 7
+fall f xs status (ArrayOut level bit at) =
+    cond (eqb bit 0) (showArray xs (nextAddress f at) 7) (showArray xs at (bit - 1))
+fall f xs status (StatusOut level bit) = cond (eqb bit 0) (Over Quiet) (showStatus status (bit - 1))
+fall f xs status (Writing came shift at) = Writing came shift at
 fall f xs status (Keeping shift) = Keeping shift
-fall f xs status (Over whole) = Over whole
+fall f xs status (Over end) = Over end
+
+abbrev pub lineLevel : Line → Level
+lineLevel Down = Low
+lineLevel Up = High
 
 -- the level that a select puts on SO
 abbrev pub stageLevel : Stage → Level
 stageLevel Closed = Released
 stageLevel (Code shift) = Released
-stageLevel (Upper upper) = Released
-stageLevel (Lower lower) = Released
-stageLevel (Ready source) = Released
-stageLevel (Showing shown) = cond (shown .level) High Low
-stageLevel (Writing w) = Released
+stageLevel (Upper purpose shift) = Released
+stageLevel (Lower purpose shift page) = Released
+stageLevel (Ready what at) = Released
+stageLevel (ArrayOut level bit at) = lineLevel level
+stageLevel (StatusOut level bit) = lineLevel level
+stageLevel (Writing came shift at) = Released
 stageLevel (Keeping shift) = Released
-stageLevel (Over whole) = Released
+stageLevel (Over end) = Released

@@ -16,17 +16,19 @@ use Rattle.parts.specs.declared.commands.Command.{Command}
 use Rattle.parts.specs.declared.commands.Command.the-variants.{Wren, Wrdi, Rdsr, Wrsr, Read, Write, Other}
 use Rattle.parts.specs.Guards.{mayKeep}
 use Rattle.parts.specs.declared.guards.Verdict as verdict
-use Rattle.stages.specs.Address.{upperPage}
+use Rattle.stages.specs.Address.{upperPage, nextAddress}
 use Rattle.stages.specs.Bits.{takeBit}
-use Rattle.select.specs.Fall.{shows, afterByte, fall}
+use Rattle.select.specs.Fall.{showArray, showStatus, fall}
 use Rattle.select.specs.Rise.{begun, opened, codeTaken, codeRise, upperTaken, upperRise, lowerTaken, lowerRise, writeTaken, writeRise, keptBy, keepTaken, keepRise, rise}
 use Rattle.stages.specs.SoundLaws.{within, SoundTaken, take-sound, next-sound, after-code, after-address}
-use Rattle.stages.specs.Sound.{soundShift, soundStage}
-use Rattle.stages.specs.declared.stage.Source.{Source}
-use Rattle.stages.specs.declared.stage.Source.the-variants.{Array, Status}
-use Rattle.stages.specs.declared.stage.Writer.{Writer}
+use Rattle.stages.specs.Sound.{soundStage}
+use Rattle.stages.specs.declared.stage.Came.{Came}
+use Rattle.stages.specs.declared.stage.End.the-variants.{Quiet}
+use Rattle.stages.specs.declared.stage.Purpose.{Purpose}
+use Rattle.stages.specs.declared.stage.Purpose.the-variants.{ToRead, ToWrite}
+use Rattle.stages.specs.declared.stage.What.the-variants.{Array, Status}
 use Rattle.stages.specs.declared.stage.Stage.{Stage}
-use Rattle.stages.specs.declared.stage.Stage.the-variants.{Closed, Code, Upper, Lower, Ready, Showing, Writing, Keeping, Over}
+use Rattle.stages.specs.declared.stage.Stage.the-variants.{Closed, Code, Upper, Lower, Ready, ArrayOut, StatusOut, Writing, Keeping, Over}
 use Rattle.select.specs.declared.rise.Seen.{Seen}
 use Rattle.stages.specs.declared.bits.Taken.{Taken}
 use Rattle.stages.specs.declared.bits.Taken.the-variants.{Part, Whole}
@@ -52,17 +54,17 @@ module _ (f : Figure) (fair : Fair f) where
   code-masked seen (Part more) = refl
   code-masked seen (Whole code) = begun-masked seen code (command (f .codes) code)
 
-  upper-masked : (seen : Seen) (write : Bool) (t : Taken) → upperTaken f seen write t .kept ≡ seen .kept
-  upper-masked seen write (Part more) = refl
-  upper-masked seen write (Whole byte) = refl
+  upper-masked : (seen : Seen) (purpose : Purpose) (t : Taken) → upperTaken f seen purpose t .kept ≡ seen .kept
+  upper-masked seen purpose (Part more) = refl
+  upper-masked seen purpose (Whole byte) = refl
 
-  lower-masked : (seen : Seen) (write : Bool) (page : ℕ) (t : Taken) → lowerTaken seen write page t .kept ≡ seen .kept
-  lower-masked seen write page (Part more) = refl
-  lower-masked seen write page (Whole byte) = refl
+  lower-masked : (seen : Seen) (purpose : Purpose) (page : ℕ) (t : Taken) → lowerTaken seen purpose page t .kept ≡ seen .kept
+  lower-masked seen purpose page (Part more) = refl
+  lower-masked seen purpose page (Whole byte) = refl
 
-  write-masked : (seen : Seen) (w : Writer) (t : Taken) → writeTaken f seen w t .kept ≡ seen .kept
-  write-masked seen w (Part more) = refl
-  write-masked seen w (Whole byte) = refl
+  write-masked : (seen : Seen) (came : Came) (at : ℕ) (t : Taken) → writeTaken f seen came at t .kept ≡ seen .kept
+  write-masked seen came at (Part more) = refl
+  write-masked seen came at (Whole byte) = refl
 
   keep-masked : (seen : Seen) (t : Taken) → bitAnd (seen .kept) (f .kept) ≡ seen .kept
       → bitAnd (keepTaken f seen t .kept) (f .kept) ≡ keepTaken f seen t .kept
@@ -74,22 +76,23 @@ module _ (f : Figure) (fair : Fair f) where
   unfolding rise codeRise upperRise lowerRise writeRise keepRise
   rise-masked seen Closed h = h
   rise-masked seen (Code shift) h = rw (code-masked seen (takeBit shift (seen .si))) h
-  rise-masked seen (Upper upper) h = rw (upper-masked seen (upper .write) (takeBit (upper .shift) (seen .si))) h
-  rise-masked seen (Lower lower) h = rw (lower-masked seen (lower .write) (lower .page) (takeBit (lower .shift) (seen .si))) h
-  rise-masked seen (Ready source) h = h
-  rise-masked seen (Showing shown) h = h
-  rise-masked seen (Writing w) h = rw (write-masked seen w (takeBit (w .shift) (seen .si))) h
+  rise-masked seen (Upper purpose shift) h = rw (upper-masked seen purpose (takeBit shift (seen .si))) h
+  rise-masked seen (Lower purpose shift page) h = rw (lower-masked seen purpose page (takeBit shift (seen .si))) h
+  rise-masked seen (Ready what at) h = h
+  rise-masked seen (ArrayOut level bit at) h = h
+  rise-masked seen (StatusOut level bit) h = h
+  rise-masked seen (Writing came shift at) h = rw (write-masked seen came at (takeBit shift (seen .si))) h
   rise-masked seen (Keeping shift) h = keep-masked seen (takeBit shift (seen .si)) h
-  rise-masked seen (Over whole) h = h
+  rise-masked seen (Over end) h = h
 
   begun-sound : (seen : Seen) (code : ℕ) (c : Command) → soundStage f (begun f seen code c .stage) ≡ true
-  unfolding soundStage soundShift
+  unfolding soundStage
   begun-sound seen code Wren = refl
   begun-sound seen code Wrdi = refl
   begun-sound seen code Rdsr = refl
   begun-sound seen code Wrsr = refl
-  begun-sound seen code Read = after-code f fair false code
-  begun-sound seen code Write = after-code f fair true code
+  begun-sound seen code Read = after-code f fair ToRead code
+  begun-sound seen code Write = after-code f fair ToWrite code
   begun-sound seen code Other = refl
 
   code-sound : (seen : Seen) (t : Taken) → SoundTaken t → soundStage f (codeTaken f seen t .stage) ≡ true
@@ -97,23 +100,23 @@ module _ (f : Figure) (fair : Fair f) where
   code-sound seen (Part more) h = h
   code-sound seen (Whole code) h = begun-sound seen code (command (f .codes) code)
 
-  upper-sound : (seen : Seen) (write : Bool) (t : Taken) → eqb (f .«address_bytes») 2 ≡ true → SoundTaken t
-      → soundStage f (upperTaken f seen write t .stage) ≡ true
-  unfolding soundStage soundShift
-  upper-sound seen write (Part more) two h = both two h
-  upper-sound seen write (Whole byte) two h = rw (lt-ltb (upperPage f byte * 256) (f .size) (within f fair (and-le-r byte (f .upper))))
-
-  lower-sound : (seen : Seen) (write : Bool) (page : ℕ) (t : Taken) → ltb (page * 256) (f .size) ≡ true → SoundTaken t
-      → soundStage f (lowerTaken seen write page t .stage) ≡ true
+  upper-sound : (seen : Seen) (purpose : Purpose) (t : Taken) → eqb (f .«address_bytes») 2 ≡ true → SoundTaken t
+      → soundStage f (upperTaken f seen purpose t .stage) ≡ true
   unfolding soundStage
-  lower-sound seen write page (Part more) p h = both p h
-  lower-sound seen write page (Whole byte) p h = after-address f fair write page (ltb-true (page * 256) (f .size) p) h
+  upper-sound seen purpose (Part more) two h = both two h
+  upper-sound seen purpose (Whole byte) two h = rw (lt-ltb (upperPage f byte * 256) (f .size) (within f fair (and-le-r byte (f .upper))))
 
-  write-sound : (seen : Seen) (w : Writer) (t : Taken) → ltb (w .at) (f .size) ≡ true → SoundTaken t
-      → soundStage f (writeTaken f seen w t .stage) ≡ true
-  unfolding soundStage soundShift
-  write-sound seen w (Part more) p h = both p h
-  write-sound seen w (Whole byte) p h = rw (lt-ltb _ _ (next-sound f fair (w .at)))
+  lower-sound : (seen : Seen) (purpose : Purpose) (page : ℕ) (t : Taken) → ltb (page * 256) (f .size) ≡ true → SoundTaken t
+      → soundStage f (lowerTaken seen purpose page t .stage) ≡ true
+  unfolding soundStage
+  lower-sound seen purpose page (Part more) p h = both p h
+  lower-sound seen purpose page (Whole byte) p h = after-address f fair purpose page (ltb-true (page * 256) (f .size) p) h
+
+  write-sound : (seen : Seen) (came : Came) (at : ℕ) (t : Taken) → ltb at (f .size) ≡ true → SoundTaken t
+      → soundStage f (writeTaken f seen came at t .stage) ≡ true
+  unfolding soundStage
+  write-sound seen came at (Part more) p h = both p h
+  write-sound seen came at (Whole byte) p h = rw (lt-ltb _ _ (next-sound f fair at))
 
   kept-sound : (seen : Seen) (byte : ℕ) (v : verdict.Verdict) → soundStage f (keptBy f seen byte v .stage) ≡ true
   unfolding soundStage
@@ -129,37 +132,40 @@ module _ (f : Figure) (fair : Fair f) where
   unfolding soundStage rise codeRise upperRise lowerRise writeRise keepRise
   rise-sound seen Closed h = refl
   rise-sound seen (Code shift) h = code-sound seen (takeBit shift (seen .si)) (take-sound shift (seen .si) h)
-  rise-sound seen (Upper upper) h =
-      upper-sound seen (upper .write) (takeBit (upper .shift) (seen .si)) (left _ _ h) (take-sound (upper .shift) (seen .si) (right (eqb (f .«address_bytes») 2) _ h))
-  rise-sound seen (Lower lower) h =
-      lower-sound seen (lower .write) (lower .page) (takeBit (lower .shift) (seen .si)) (left _ _ h) (take-sound (lower .shift) (seen .si) (right (ltb (lower .page * 256) (f .size)) _ h))
-  rise-sound seen (Ready source) h = h
-  rise-sound seen (Showing shown) h = h
-  rise-sound seen (Writing w) h =
-      write-sound seen w (takeBit (w .shift) (seen .si)) (left _ _ h) (take-sound (w .shift) (seen .si) (right (ltb (w .at) (f .size)) _ h))
+  rise-sound seen (Upper purpose shift) h =
+      upper-sound seen purpose (takeBit shift (seen .si)) (left _ _ h) (take-sound shift (seen .si) (right (eqb (f .«address_bytes») 2) _ h))
+  rise-sound seen (Lower purpose shift page) h =
+      lower-sound seen purpose page (takeBit shift (seen .si)) (left _ _ h) (take-sound shift (seen .si) (right (ltb (page * 256) (f .size)) _ h))
+  rise-sound seen (Ready what at) h = h
+  rise-sound seen (ArrayOut level bit at) h = h
+  rise-sound seen (StatusOut level bit) h = h
+  rise-sound seen (Writing came shift at) h =
+      write-sound seen came at (takeBit shift (seen .si)) (left _ _ h) (take-sound shift (seen .si) (right (ltb at (f .size)) _ h))
   rise-sound seen (Keeping shift) h = keep-sound seen (takeBit shift (seen .si)) (take-sound shift (seen .si) h)
-  rise-sound seen (Over whole) h = refl
+  rise-sound seen (Over end) h = refl
 
-  after-byte : (xs : List ℕ) (status : ℕ) (source : Source) → soundStage f (afterByte f xs status source) ≡ true
-  unfolding soundStage afterByte shows
-  after-byte xs status (Array at) = lt-ltb _ _ (next-sound f fair at)
-  after-byte xs status Status = refl
+  -- one bit less
+  lower-bit : (bit : ℕ) → ltb bit 8 ≡ true → ltb (bit - 1) 8 ≡ true
+  lower-bit bit h = lt-ltb (bit - 1) 8 (omega (arith, ltb-true bit 8 h))
 
   pub fall-sound : (xs : List ℕ) (status : ℕ) (stage : Stage) → soundStage f stage ≡ true → soundStage f (fall f xs status stage) ≡ true
-  unfolding soundStage fall shows
+  unfolding soundStage fall showArray showStatus
   fall-sound xs status Closed h = h
   fall-sound xs status (Code shift) h = h
-  fall-sound xs status (Upper upper) h = h
-  fall-sound xs status (Lower lower) h = h
-  fall-sound xs status (Ready source) h = h
-  fall-sound xs status (Showing shown) h = go (eqb (shown .bit) 0)
+  fall-sound xs status (Upper purpose shift) h = h
+  fall-sound xs status (Lower purpose shift page) h = h
+  fall-sound xs status (Ready Array at) h = both h refl
+  fall-sound xs status (Ready Status at) h = refl
+  fall-sound xs status (ArrayOut level bit at) h = go (eqb bit 0)
     where
-      go : (t : Bool)
-          → soundStage f (cond t (afterByte f xs status (shown .source)) (shows xs status (shown .source) (shown .bit - 1))) ≡ true
-      go true = after-byte xs status (shown .source)
-      go false =
-          both (lt-ltb (shown .bit - 1) 8 (omega (arith, ltb-true (shown .bit) 8 (left _ _ h))))
-          (right (ltb (shown .bit) 8) _ h)
-  fall-sound xs status (Writing w) h = h
+      go : (t : Bool) → soundStage f (cond t (showArray xs (nextAddress f at) 7) (showArray xs at (bit - 1))) ≡ true
+      go true = both (lt-ltb _ _ (next-sound f fair at)) refl
+      go false = both (left (ltb at (f .size)) (ltb bit 8) h) (lower-bit bit (right (ltb at (f .size)) (ltb bit 8) h))
+  fall-sound xs status (StatusOut level bit) h = go (eqb bit 0)
+    where
+      go : (t : Bool) → soundStage f (cond t (Over Quiet) (showStatus status (bit - 1))) ≡ true
+      go true = refl
+      go false = lower-bit bit h
+  fall-sound xs status (Writing came shift at) h = h
   fall-sound xs status (Keeping shift) h = h
-  fall-sound xs status (Over whole) h = h
+  fall-sound xs status (Over end) h = h

@@ -1,13 +1,15 @@
 // A seen fall of SCK in a select: output moves.
 ghost use mathlib.Core.Path.{_≡_};
-ghost use Rattle.select.specs.Fall.{statusByte, byteShown, shows, afterByte, fall, stageLevel};
+ghost use lib.ListN.{getD};
+ghost use Rattle.select.specs.Fall.{statusByte, showArray, showStatus, fall, stageLevel};
 use crate::notes::Level;
 use parts::figures::Figure;
 use stages::address::next_address;
 use stages::bits::bit_of;
-use stages::stage::Shown;
-use stages::stage::Source;
+use stages::stage::End;
+use stages::stage::Line;
 use stages::stage::Stage;
+use stages::stage::What;
 
 // The status byte that RDSR shows.
 pub fn status_byte(kept: u8, latch: bool) -> u8
@@ -16,36 +18,28 @@ pub fn status_byte(kept: u8, latch: bool) -> u8
     if latch { kept | 0x02 } else { kept }
 }
 
-// The byte that a READ or an RDSR shows, the array's as it is lent to this call.
-fn byte_shown(array: &[u8], status: u8, source: Source) -> u8
-    ensures { λ r. ⌜ r ≡ byteShown (now (array .entry)) status source ⌝ }
+// The byte at an address, as the array is lent to this call; past its end 0.
+fn byte_at(array: &[u8], at: usize) -> u8
+    ensures { λ r. ⌜ r ≡ getD (now (array .entry)) at 0 ⌝ }
 {
-    match source {
-        Source::Array(at) => { if at < array.len() { array[at] } else { 0 } }
-        Source::Status => status,
-    }
+    if at < array.len() { array[at] } else { 0 }
 }
 
-// One bit of the source put on SO.
-fn show(array: &[u8], status: u8, source: Source, bit: u8) -> Stage
-    ensures { λ r. ⌜ r ≡ shows (now (array .entry)) status source bit ⌝ }
+// One bit of the array put on SO.
+fn show_array(array: &[u8], at: usize, bit: u16) -> Stage
+    ensures { λ r. ⌜ r ≡ showArray (now (array .entry)) at bit ⌝ }
 {
-    let byte = byte_shown(array, status, source);
+    let byte = byte_at(array, at);
     let level = bit_of(byte, bit);
-    Stage::Showing(Shown { source, bit, level })
+    Stage::ArrayOut { level, bit, at }
 }
 
-// After a byte's last bit.
-fn after_byte(f: Figure, array: &[u8], status: u8, source: Source) -> Stage
-    ensures { λ r. ⌜ r ≡ afterByte f (now (array .entry)) status source ⌝ }
+// One bit of the status byte put on SO.
+fn show_status(status: u8, bit: u16) -> Stage
+    ensures { λ r. ⌜ r ≡ showStatus status bit ⌝ }
 {
-    match source {
-        Source::Array(at) => {
-            let next = next_address(f, at);
-            show(array, status, Source::Array(next), 7)
-        }
-        Source::Status => Stage::Over(false),
-    }
+    let level = bit_of(status, bit);
+    Stage::StatusOut { level, bit }
 }
 
 // "Output moves on a seen fall of SCK once the header is whole." Every other stage stays.
@@ -54,22 +48,30 @@ pub fn fall(f: Figure, array: &[u8], status: u8, stage: Stage) -> Stage
 {
     match stage {
         Stage::Closed => stage,
-        Stage::Code(_) => stage,
-        Stage::Upper(_) => stage,
-        Stage::Lower(_) => stage,
-        Stage::Ready(source) => show(array, status, source, 7),
-        Stage::Showing(shown) => {
-            let source = shown.source;
-            let bit = shown.bit;
+        Stage::Code { .. } => stage,
+        Stage::Upper { .. } => stage,
+        Stage::Lower { .. } => stage,
+        Stage::Ready { what, at } => match what {
+            What::Array => show_array(array, at, 7),
+            What::Status => show_status(status, 7),
+        },
+        Stage::ArrayOut { bit, at, .. } => {
             if bit == 0 {
-                after_byte(f, array, status, source)
+                show_array(array, next_address(f, at), 7)
             } else {
-                show(array, status, source, bit - 1)
+                show_array(array, at, bit - 1)
             }
         }
-        Stage::Writing(_) => stage,
-        Stage::Keeping(_) => stage,
-        Stage::Over(_) => stage,
+        Stage::StatusOut { bit, .. } => {
+            if bit == 0 {
+                Stage::Over { end: End::Quiet }
+            } else {
+                show_status(status, bit - 1)
+            }
+        }
+        Stage::Writing { .. } => stage,
+        Stage::Keeping { .. } => stage,
+        Stage::Over { .. } => stage,
     }
 }
 
@@ -79,13 +81,20 @@ pub fn stage_level(stage: Stage) -> Level
 {
     match stage {
         Stage::Closed => Level::Released,
-        Stage::Code(_) => Level::Released,
-        Stage::Upper(_) => Level::Released,
-        Stage::Lower(_) => Level::Released,
-        Stage::Ready(_) => Level::Released,
-        Stage::Showing(shown) => if shown.level { Level::High } else { Level::Low },
-        Stage::Writing(_) => Level::Released,
-        Stage::Keeping(_) => Level::Released,
-        Stage::Over(_) => Level::Released,
+        Stage::Code { .. } => Level::Released,
+        Stage::Upper { .. } => Level::Released,
+        Stage::Lower { .. } => Level::Released,
+        Stage::Ready { .. } => Level::Released,
+        Stage::ArrayOut { level, .. } => match level {
+            Line::Down => Level::Low,
+            Line::Up => Level::High,
+        },
+        Stage::StatusOut { level, .. } => match level {
+            Line::Down => Level::Low,
+            Line::Up => Level::High,
+        },
+        Stage::Writing { .. } => Level::Released,
+        Stage::Keeping { .. } => Level::Released,
+        Stage::Over { .. } => Level::Released,
     }
 }

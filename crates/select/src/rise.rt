@@ -12,15 +12,14 @@ use stages::address::addressed;
 use stages::address::header;
 use stages::address::next_address;
 use stages::address::upper_page;
+use stages::bits::NO_BITS;
 use stages::bits::Taken;
-use stages::bits::no_bits;
 use stages::bits::take_bit;
-use stages::stage::LowerByte;
-use stages::stage::Shift;
-use stages::stage::Source;
+use stages::stage::Came;
+use stages::stage::End;
+use stages::stage::Purpose;
 use stages::stage::Stage;
-use stages::stage::UpperByte;
-use stages::stage::Writer;
+use stages::stage::What;
 
 // What a rise reads besides the stage.
 pub struct Seen {
@@ -58,83 +57,78 @@ fn open(f: Figure, seen: Seen, code: u8) -> Risen
     let command = decode(codes, code);
     match command {
         Command::Wren => Risen {
-            stage: Stage::Over(false),
+            stage: Stage::Over { end: End::Quiet },
             latch: true,
             kept: seen.kept,
             note: Note::Latch(true),
         },
         Command::Wrdi => Risen {
-            stage: Stage::Over(false),
+            stage: Stage::Over { end: End::Quiet },
             latch: false,
             kept: seen.kept,
             note: Note::Latch(false),
         },
-        Command::Rdsr => to_stage(seen, Stage::Ready(Source::Status)),
-        Command::Wrsr => to_stage(seen, Stage::Keeping(no_bits())),
-        Command::Read => to_stage(seen, header(f, false, code)),
-        Command::Write => to_stage(seen, header(f, true, code)),
-        Command::Other => to_stage(seen, Stage::Over(false)),
+        Command::Rdsr => to_stage(
+            seen,
+            Stage::Ready {
+                what: What::Status,
+                at: 0,
+            },
+        ),
+        Command::Wrsr => to_stage(seen, Stage::Keeping { shift: NO_BITS }),
+        Command::Read => to_stage(seen, header(f, Purpose::ToRead, code)),
+        Command::Write => to_stage(seen, header(f, Purpose::ToWrite, code)),
+        Command::Other => to_stage(seen, Stage::Over { end: End::Quiet }),
     }
 }
 
 // A bit of the op-code.
-fn code_rise(f: Figure, seen: Seen, shift: Shift) -> Risen
+fn code_rise(f: Figure, seen: Seen, shift: u16) -> Risen
     ensures { λ r. ⌜ r ≡ codeRise f seen shift ⌝ }
 {
     let taken = take_bit(shift, seen.si);
     match taken {
-        Taken::Part(more) => to_stage(seen, Stage::Code(more)),
+        Taken::Part(shift) => to_stage(seen, Stage::Code { shift }),
         Taken::Whole(code) => open(f, seen, code),
     }
 }
 
 // A bit of the upper address byte, where the part has two.
-fn upper_rise(f: Figure, seen: Seen, upper: UpperByte) -> Risen
-    ensures { λ r. ⌜ r ≡ upperRise f seen upper ⌝ }
+fn upper_rise(f: Figure, seen: Seen, purpose: Purpose, shift: u16) -> Risen
+    ensures { λ r. ⌜ r ≡ upperRise f seen purpose shift ⌝ }
 {
-    let shift = upper.shift;
     let taken = take_bit(shift, seen.si);
     match taken {
-        Taken::Part(more) => to_stage(
-            seen,
-            Stage::Upper(UpperByte {
-                write: upper.write,
-                shift: more,
-            }),
-        ),
+        Taken::Part(shift) => to_stage(seen, Stage::Upper { purpose, shift }),
         Taken::Whole(byte) => {
             let page = upper_page(f, byte);
-            let shift = no_bits();
             to_stage(
                 seen,
-                Stage::Lower(LowerByte {
-                    write: upper.write,
+                Stage::Lower {
+                    purpose,
+                    shift: NO_BITS,
                     page,
-                    shift,
-                }),
+                },
             )
         }
     }
 }
 
 // A bit of the last address byte.
-fn lower_rise(seen: Seen, lower: LowerByte) -> Risen
-    ensures { λ r. ⌜ r ≡ lowerRise seen lower ⌝ }
+fn lower_rise(seen: Seen, purpose: Purpose, shift: u16, page: u32) -> Risen
+    ensures { λ r. ⌜ r ≡ lowerRise seen purpose shift page ⌝ }
 {
-    let shift = lower.shift;
     let taken = take_bit(shift, seen.si);
     match taken {
-        Taken::Part(more) => {
-            to_stage(
-                seen,
-                Stage::Lower(LowerByte {
-                    write: lower.write,
-                    page: lower.page,
-                    shift: more,
-                }),
-            )
-        }
-        Taken::Whole(byte) => to_stage(seen, addressed(lower.write, lower.page, byte)),
+        Taken::Part(shift) => to_stage(
+            seen,
+            Stage::Lower {
+                purpose,
+                shift,
+                page,
+            },
+        ),
+        Taken::Whole(byte) => to_stage(seen, addressed(purpose, page, byte)),
     }
 }
 
@@ -149,35 +143,22 @@ fn store_note(at: usize, byte: u8, verdict: Verdict) -> Note
 }
 
 // A data byte of a WRITE: stored or held back at its eighth rise, and the address steps.
-fn write_rise(f: Figure, seen: Seen, writer: Writer) -> Risen
-    ensures { λ r. ⌜ r ≡ writeRise f seen writer ⌝ }
+fn write_rise(f: Figure, seen: Seen, came: Came, shift: u16, at: usize) -> Risen
+    ensures { λ r. ⌜ r ≡ writeRise f seen came shift at ⌝ }
 {
-    let at = writer.at;
-    let shift = writer.shift;
     let taken = take_bit(shift, seen.si);
     match taken {
-        Taken::Part(more) => {
-            to_stage(
-                seen,
-                Stage::Writing(Writer {
-                    at,
-                    shift: more,
-                    whole: writer.whole,
-                }),
-            )
-        }
+        Taken::Part(shift) => to_stage(seen, Stage::Writing { came, shift, at }),
         Taken::Whole(byte) => {
             let verdict = may_store(f, seen.latch, seen.kept, seen.wp, at);
             let note = store_note(at, byte, verdict);
             let next = next_address(f, at);
-            let none = no_bits();
-            let stage = Stage::Writing(Writer {
-                at: next,
-                shift: none,
-                whole: true,
-            });
             Risen {
-                stage,
+                stage: Stage::Writing {
+                    came: Came::Bytes,
+                    shift: NO_BITS,
+                    at: next,
+                },
                 latch: seen.latch,
                 kept: seen.kept,
                 note,
@@ -187,26 +168,27 @@ fn write_rise(f: Figure, seen: Seen, writer: Writer) -> Risen
 }
 
 // The first data byte of a WRSR: kept under the mask or held back at its eighth rise.
-fn keep_rise(f: Figure, seen: Seen, shift: Shift) -> Risen
+fn keep_rise(f: Figure, seen: Seen, shift: u16) -> Risen
     ensures { λ r. ⌜ r ≡ keepRise f seen shift ⌝ }
 {
     let taken = take_bit(shift, seen.si);
     match taken {
-        Taken::Part(more) => to_stage(seen, Stage::Keeping(more)),
+        Taken::Part(shift) => to_stage(seen, Stage::Keeping { shift }),
         Taken::Whole(byte) => {
             let verdict = may_keep(f, seen.latch, seen.kept, seen.wp);
+            let stage = Stage::Over { end: End::Drops };
             match verdict {
                 Verdict::Allowed => {
                     let kept = byte & f.kept;
                     Risen {
-                        stage: Stage::Over(true),
+                        stage,
                         latch: seen.latch,
                         kept,
                         note: Note::KeptSet(kept),
                     }
                 }
                 Verdict::HeldBack(reason) => Risen {
-                    stage: Stage::Over(true),
+                    stage,
                     latch: seen.latch,
                     kept: seen.kept,
                     note: Note::KeptHeldBack(reason),
@@ -222,13 +204,18 @@ pub fn rise(f: Figure, seen: Seen, stage: Stage) -> Risen
 {
     match stage {
         Stage::Closed => to_stage(seen, stage),
-        Stage::Code(shift) => code_rise(f, seen, shift),
-        Stage::Upper(upper) => upper_rise(f, seen, upper),
-        Stage::Lower(lower) => lower_rise(seen, lower),
-        Stage::Ready(_) => to_stage(seen, stage),
-        Stage::Showing(_) => to_stage(seen, stage),
-        Stage::Writing(writer) => write_rise(f, seen, writer),
-        Stage::Keeping(shift) => keep_rise(f, seen, shift),
-        Stage::Over(_) => to_stage(seen, stage),
+        Stage::Code { shift } => code_rise(f, seen, shift),
+        Stage::Upper { purpose, shift } => upper_rise(f, seen, purpose, shift),
+        Stage::Lower {
+            purpose,
+            shift,
+            page,
+        } => lower_rise(seen, purpose, shift, page),
+        Stage::Ready { .. } => to_stage(seen, stage),
+        Stage::ArrayOut { .. } => to_stage(seen, stage),
+        Stage::StatusOut { .. } => to_stage(seen, stage),
+        Stage::Writing { came, shift, at } => write_rise(f, seen, came, shift, at),
+        Stage::Keeping { shift } => keep_rise(f, seen, shift),
+        Stage::Over { .. } => to_stage(seen, stage),
     }
 }

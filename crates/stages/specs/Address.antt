@@ -1,13 +1,16 @@
 -- The address: "op-code bit 3 is the top bit, then one byte", or "two bytes, upper five bits ignored". Assumes nothing.
 use Prim.Native.Nat.{ℕ, _+_, _*_}
-use mathlib.Core.Bool.{Bool, false, cond}
+use mathlib.Core.Bool.{cond}
 use lib.Dec.{eqb, leb}
 use lib.Bits.{bitAnd}
 use Rattle.parts.specs.declared.figures.Figure.{Figure}
 use Rattle.stages.specs.Bits.{fresh}
 use Rattle.stages.specs.declared.stage.Stage.{Stage}
 use Rattle.stages.specs.declared.stage.Stage.the-variants.{Upper, Lower, Ready, Writing}
-use Rattle.stages.specs.declared.stage.Source.the-variants.{Array}
+use Rattle.stages.specs.declared.stage.Purpose.{Purpose}
+use Rattle.stages.specs.declared.stage.Purpose.the-variants.{ToRead, ToWrite}
+use Rattle.stages.specs.declared.stage.What.the-variants.{Array}
+use Rattle.stages.specs.declared.stage.Came.the-variants.{NoByte}
 
 -- "bit 3 being A8"
 abbrev pub codePage : Figure → ℕ → ℕ
@@ -18,18 +21,14 @@ abbrev pub upperPage : Figure → ℕ → ℕ
 upperPage f byte = bitAnd byte (f .upper)
 
 -- the stage after the op-code of a READ or WRITE
-unfoldable pub afterCode : Figure → Bool → ℕ → Stage
-afterCode f write code =
-    cond (eqb (f .«address_bytes») 2)
-    (Upper (record { write = write; shift = fresh }))
-    (Lower (record { write = write; page = codePage f code; shift = fresh }))
+unfoldable pub afterCode : Figure → Purpose → ℕ → Stage
+afterCode f purpose code =
+    cond (eqb (f .«address_bytes») 2) (Upper purpose fresh) (Lower purpose fresh (codePage f code))
 
 -- the stage after the whole address
-unfoldable pub afterAddress : Bool → ℕ → ℕ → Stage
-afterAddress write page byte =
-    cond write
-    (Writing (record { at = page * 256 + byte; shift = fresh; whole = false }))
-    (Ready (Array (page * 256 + byte)))
+unfoldable pub afterAddress : Purpose → ℕ → ℕ → Stage
+afterAddress ToRead page byte = Ready Array (page * 256 + byte)
+afterAddress ToWrite page byte = Writing NoByte fresh (page * 256 + byte)
 
 -- "then the next address, rolling from the last to 0"
 unfoldable pub nextAddress : Figure → ℕ → ℕ

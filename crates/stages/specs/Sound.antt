@@ -1,31 +1,32 @@
 -- The part of the soundness test that looks at the stage: it fails "an address not below the part's size, a partial
 -- byte or bit count that no number of clocks gives". Assumes nothing.
-use Prim.Native.Nat.{_*_, _^_}
+use Prim.Native.Nat.{ℕ, _*_}
 use mathlib.Core.Bool.{Bool, true, _&&_}
 use lib.Dec.{eqb, ltb}
 use Rattle.parts.specs.declared.figures.Figure.{Figure}
-use Rattle.stages.specs.declared.stage.Shift.{Shift}
-use Rattle.stages.specs.declared.stage.Source.{Source}
-use Rattle.stages.specs.declared.stage.Source.the-variants.{Array, Status}
+use Rattle.stages.specs.declared.stage.What.{What}
+use Rattle.stages.specs.declared.stage.What.the-variants.{Array, Status}
 use Rattle.stages.specs.declared.stage.Stage.{Stage}
-use Rattle.stages.specs.declared.stage.Stage.the-variants.{Closed, Code, Upper, Lower, Ready, Showing, Writing, Keeping, Over}
+use Rattle.stages.specs.declared.stage.Stage.the-variants.{Closed, Code, Upper, Lower, Ready, ArrayOut, StatusOut, Writing, Keeping, Over}
 
--- under eight bits, and no more in the byte than those
-unfoldable pub soundShift : Shift → Bool
-soundShift shift = ltb (shift .bits) 8 && ltb (shift .byte) (2 ^ (shift .bits))
+-- under eight bits after the 1: eight would be a whole byte
+abbrev pub soundShift : ℕ → Bool
+soundShift shift = ltb 0 shift && ltb shift 256
 
-abbrev pub soundSource : Figure → Source → Bool
-soundSource f (Array at) = ltb at (f .size)
-soundSource f Status = true
+-- how many bytes there are to show
+abbrev pub shownLength : Figure → What → ℕ
+shownLength f Array = f .size
+shownLength f Status = 1
 
 -- an upper address byte comes only where the part has two
 unfoldable pub soundStage : Figure → Stage → Bool
 soundStage f Closed = true
 soundStage f (Code shift) = soundShift shift
-soundStage f (Upper upper) = eqb (f .«address_bytes») 2 && soundShift (upper .shift)
-soundStage f (Lower lower) = ltb (lower .page * 256) (f .size) && soundShift (lower .shift)
-soundStage f (Ready source) = soundSource f source
-soundStage f (Showing shown) = ltb (shown .bit) 8 && soundSource f (shown .source)
-soundStage f (Writing w) = ltb (w .at) (f .size) && soundShift (w .shift)
+soundStage f (Upper purpose shift) = eqb (f .«address_bytes») 2 && soundShift shift
+soundStage f (Lower purpose shift page) = ltb (page * 256) (f .size) && soundShift shift
+soundStage f (Ready what at) = ltb at (shownLength f what)
+soundStage f (ArrayOut level bit at) = ltb at (f .size) && ltb bit 8
+soundStage f (StatusOut level bit) = ltb bit 8
+soundStage f (Writing came shift at) = ltb at (f .size) && soundShift shift
 soundStage f (Keeping shift) = soundShift shift
-soundStage f (Over whole) = true
+soundStage f (Over end) = true

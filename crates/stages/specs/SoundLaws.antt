@@ -2,20 +2,19 @@
 use Prim.Native.Nat.{ℕ, _+_, _*_, _%_, _^_, _<_, _≤_, zero-le}
 use mathlib.Core.Path.{_≡_, refl}
 use mathlib.Core.Bool.{Bool, true, false, cond}
-use native.Mathlib.Nat.{lt-of-le-of-lt, lt-of-lt-of-le, mod-le, mod-lt, pow-suc, mul-lt-mul-of-pos-right}
-use native.Mathlib.Numerals.{add-one}
+use native.Mathlib.Nat.{mod-eq-of-lt, mod-lt}
 use native.Mathlib.Omega.{arith}
 use borrow.Author.Tests.{lt-ltb, ltb-true, leb-false}
-use lib.Bits.{bitAnd, or-lt}
-use lib.Dec.{eqb, leb, ltb, lit<, lit≤}
-use lib.Pow.{pow-mono}
+use lib.Bits.{bitAnd, or-shifted}
+use lib.Dec.{eqb, leb, ltb, lit<}
 use Rattle.parts.specs.FigureLaws.{Fair}
-use Rattle.parts.specs.TestLaws.{both, right}
+use Rattle.parts.specs.TestLaws.{both, left, right}
 use Rattle.parts.specs.declared.figures.Figure.{Figure}
 use Rattle.stages.specs.Address.{codePage, afterCode, afterAddress, nextAddress}
 use Rattle.stages.specs.Bits.{fresh, lowBit, shifted, takeBit}
 use Rattle.stages.specs.Sound.{soundShift, soundStage}
-use Rattle.stages.specs.declared.stage.Shift.{Shift}
+use Rattle.stages.specs.declared.stage.Purpose.{Purpose}
+use Rattle.stages.specs.declared.stage.Purpose.the-variants.{ToRead, ToWrite}
 use Rattle.stages.specs.declared.stage.Stage.the-variants.{Upper, Lower}
 use Rattle.stages.specs.declared.bits.Taken.{Taken}
 use Rattle.stages.specs.declared.bits.Taken.the-variants.{Part, Whole}
@@ -25,35 +24,32 @@ abbrev pub SoundTaken : Taken → Type 0
 SoundTaken (Part more) = soundShift more ≡ true
 SoundTaken (Whole byte) = byte < 2 ^ 8
 
-low-small : (si : Bool) → lowBit si < 2 ^ 1
-low-small false = lit< tt
-low-small true = lit< tt
+low-bit : (si : Bool) → lowBit si < 2
+low-bit false = lit< tt
+low-bit true = lit< tt
 
-doubled : (bits : ℕ) {byte : ℕ} → byte < 2 ^ bits → byte * 2 < 2 ^ (bits + 1)
-doubled bits h = rw (add-one bits, pow-suc 2 bits) (mul-lt-mul-of-pos-right h (lit< tt))
+double : (shift : ℕ) → shift < 256 → shift * 2 < 65536
+double shift h = omega arith
 
-shifted-small : (bits byte : ℕ) (si : Bool) → byte < 2 ^ bits → shifted byte si < 2 ^ (bits + 1)
-shifted-small bits byte si h =
-    or-lt (bits + 1) (byte * 2 % 256) (lowBit si)
-    (lt-of-le-of-lt (mod-le (byte * 2) 256) (doubled bits h))
-    (lt-of-lt-of-le (low-small si) (pow-mono {i = 1} {j = bits + 1} (omega arith)))
+-- below 256 a shift loses nothing
+pub shifted-is : (shift : ℕ) (si : Bool) → shift < 256 → shifted shift si ≡ shift * 2 + lowBit si
+shifted-is shift si h = rw (mod-eq-of-lt (double shift h)) (or-shifted shift 1 (lowBit si) (low-bit si))
 
-shifted-byte : (byte : ℕ) (si : Bool) → shifted byte si < 2 ^ 8
-shifted-byte byte si = or-lt 8 (byte * 2 % 256) (lowBit si) (mod-lt (byte * 2) (lit< tt)) (lt-of-lt-of-le (low-small si) (lit≤ tt))
+grown : (shift low : ℕ) → 0 < shift → 0 < shift * 2 + low
+grown shift low h = omega arith
 
-pub take-sound : (shift : Shift) (si : Bool) → soundShift shift ≡ true → SoundTaken (takeBit shift si)
-unfolding takeBit soundShift
-take-sound shift si h = go (leb 7 (shift .bits)) refl
+pub take-sound : (shift : ℕ) (si : Bool) → soundShift shift ≡ true → SoundTaken (takeBit shift si)
+unfolding takeBit
+take-sound shift si h = go (ltb (shifted shift si) 256) refl
   where
-    small : shift .byte < 2 ^ (shift .bits)
-    small = ltb-true _ _ (right (ltb (shift .bits) 8) (ltb (shift .byte) (2 ^ (shift .bits))) h)
+    some : 0 < shifted shift si
+    some =
+        rw (shifted-is shift si (ltb-true shift 256 (right (ltb 0 shift) (ltb shift 256) h)))
+        (grown shift (lowBit si) (ltb-true 0 shift (left (ltb 0 shift) (ltb shift 256) h)))
 
-    go : (t : Bool) → leb 7 (shift .bits) ≡ t
-        → SoundTaken (cond t (Whole (shifted (shift .byte) si)) (Part (record { bits = shift .bits + 1; byte = shifted (shift .byte) si })))
-    go true e = shifted-byte (shift .byte) si
-    go false e =
-        both (lt-ltb (shift .bits + 1) 8 (omega (arith, leb-false 7 (shift .bits) e)))
-        (lt-ltb _ _ (shifted-small (shift .bits) (shift .byte) si small))
+    go : (t : Bool) → ltb (shifted shift si) 256 ≡ t → SoundTaken (cond t (Part (shifted shift si)) (Whole (shifted shift si % 256)))
+    go true e = both (lt-ltb 0 (shifted shift si) some) e
+    go false e = mod-lt (shifted shift si) (lit< tt)
 
 module _ (f : Figure) (fair : Fair f) where
   -- a page that begins in the array lies in it
@@ -79,16 +75,16 @@ module _ (f : Figure) (fair : Fair f) where
       go true = zero-le
       go false = fair .top
 
-  pub after-code : (write : Bool) (code : ℕ) → soundStage f (afterCode f write code) ≡ true
-  unfolding afterCode soundStage soundShift
-  after-code write code = go (eqb (f .«address_bytes») 2) refl
+  pub after-code : (purpose : Purpose) (code : ℕ) → soundStage f (afterCode f purpose code) ≡ true
+  unfolding afterCode soundStage
+  after-code purpose code = go (eqb (f .«address_bytes») 2) refl
     where
       go : (t : Bool) → eqb (f .«address_bytes») 2 ≡ t
-          → soundStage f (cond t (Upper (record { write = write; shift = fresh })) (Lower (record { write = write; page = codePage f code; shift = fresh }))) ≡ true
+          → soundStage f (cond t (Upper purpose fresh) (Lower purpose fresh (codePage f code))) ≡ true
       go true e = rw e
       go false e = rw (lt-ltb (codePage f code * 256) (f .size) (within (code-page code)))
 
-  pub after-address : (write : Bool) (page : ℕ) {byte : ℕ} → page * 256 < f .size → byte < 2 ^ 8 → soundStage f (afterAddress write page byte) ≡ true
-  unfolding afterAddress soundStage soundShift
-  after-address true page p h = rw (lt-ltb _ _ (paged page p h))
-  after-address false page p h = lt-ltb _ _ (paged page p h)
+  pub after-address : (purpose : Purpose) (page : ℕ) {byte : ℕ} → page * 256 < f .size → byte < 2 ^ 8 → soundStage f (afterAddress purpose page byte) ≡ true
+  unfolding afterAddress soundStage
+  after-address ToRead page p h = lt-ltb _ _ (paged page p h)
+  after-address ToWrite page p h = rw (lt-ltb _ _ (paged page p h))

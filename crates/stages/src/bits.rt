@@ -1,46 +1,39 @@
 // Bits of a byte: taken in from SI, and shown on SO.
 ghost use mathlib.Core.Path.{_≡_};
-ghost use Rattle.stages.specs.Bits.{fresh, lowBit, takeBit, bitOf};
-use crate::stage::Shift;
+ghost use Rattle.stages.specs.Bits.{takeBit, bitOf};
+use crate::stage::Line;
 
 // A byte after one more bit.
 pub enum Taken {
-    Part(Shift),
+    Part(u16),
     Whole(u8),
 }
 
-// No bit yet.
-pub fn no_bits() -> Shift
-    ensures { λ r. ⌜ r ≡ fresh ⌝ }
-{
-    Shift { bits: 0, byte: 0 }
-}
+// No bit yet: the 1 that stands before the bits.
+pub const NO_BITS: u16 = 1;
 
-// The level of SI as a byte's lowest bit.
-fn low_bit(si: bool) -> u8
-    ensures { λ r. ⌜ r ≡ lowBit si ⌝ }
-{
-    if si { 1 } else { 0 }
-}
-
-// The byte with one more bit, "most significant bit first".
-pub fn take_bit(shift: Shift, si: bool) -> Taken
+// The byte with one more bit, "most significant bit first". The eighth bit pushes the 1 out.
+pub fn take_bit(shift: u16, si: bool) -> Taken
     ensures { λ r. ⌜ r ≡ takeBit shift si ⌝ }
 {
-    let byte = (shift.byte << 1) | low_bit(si);
-    if 7 <= shift.bits {
-        return Taken::Whole(byte);
+    let next = (shift << 1) | (si as u16);
+    if next < 256 {
+        return Taken::Part(next);
     }
-    let bits = shift.bits + 1;
-    Taken::Part(Shift { bits, byte })
+    let byte = (next % 256) as u8;
+    Taken::Whole(byte)
 }
 
 // Bit number `bit` of a byte.
-pub fn bit_of(byte: u8, bit: u8) -> bool
+pub fn bit_of(byte: u8, bit: u16) -> Line
     ensures { λ r. ⌜ r ≡ bitOf byte bit ⌝ }
 {
     if 8 <= bit {
-        return false;
+        return Line::Down;
     }
-    (byte >> bit) & 1 == 1
+    if (byte >> bit) & 1 == 1 {
+        Line::Up
+    } else {
+        Line::Down
+    }
 }

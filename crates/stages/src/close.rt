@@ -1,6 +1,8 @@
 // The seen rise of /CS that closes a select.
 ghost use mathlib.Core.Path.{_≡_};
 ghost use Rattle.stages.specs.Close.{isClosed, drops};
+use crate::stage::Came;
+use crate::stage::End;
 use crate::stage::Stage;
 
 // Whether no select is open.
@@ -9,14 +11,15 @@ pub fn is_closed(stage: Stage) -> bool
 {
     match stage {
         Stage::Closed => true,
-        Stage::Code(_) => false,
-        Stage::Upper(_) => false,
-        Stage::Lower(_) => false,
-        Stage::Ready(_) => false,
-        Stage::Showing(_) => false,
-        Stage::Writing(_) => false,
-        Stage::Keeping(_) => false,
-        Stage::Over(_) => false,
+        Stage::Code { .. } => false,
+        Stage::Upper { .. } => false,
+        Stage::Lower { .. } => false,
+        Stage::Ready { .. } => false,
+        Stage::ArrayOut { .. } => false,
+        Stage::StatusOut { .. } => false,
+        Stage::Writing { .. } => false,
+        Stage::Keeping { .. } => false,
+        Stage::Over { .. } => false,
     }
 }
 
@@ -26,13 +29,20 @@ pub fn drops(stage: Stage) -> bool
 {
     match stage {
         Stage::Closed => false,
-        Stage::Code(_) => false,
-        Stage::Upper(_) => false,
-        Stage::Lower(_) => false,
-        Stage::Ready(_) => false,
-        Stage::Showing(_) => false,
-        Stage::Writing(writer) => writer.whole,
-        Stage::Keeping(_) => false,
-        Stage::Over(whole) => whole,
+        Stage::Code { .. } => false,
+        Stage::Upper { .. } => false,
+        Stage::Lower { .. } => false,
+        Stage::Ready { .. } => false,
+        Stage::ArrayOut { .. } => false,
+        Stage::StatusOut { .. } => false,
+        Stage::Writing { came, .. } => match came {
+            Came::NoByte => false,
+            Came::Bytes => true,
+        },
+        Stage::Keeping { .. } => false,
+        Stage::Over { end } => match end {
+            End::Quiet => false,
+            End::Drops => true,
+        },
     }
 }

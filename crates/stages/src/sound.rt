@@ -1,28 +1,24 @@
 // The part of the soundness test that looks at the stage.
 ghost use mathlib.Core.Path.{_≡_};
-ghost use Rattle.stages.specs.Sound.{soundShift, soundSource, soundStage};
-use crate::stage::Shift;
-use crate::stage::Source;
+ghost use Rattle.stages.specs.Sound.{soundShift, shownLength, soundStage};
 use crate::stage::Stage;
+use crate::stage::What;
 use parts::figures::Figure;
 
-// Under eight bits, and no more in the byte than those.
-fn sound_shift(shift: Shift) -> bool
+// Under eight bits after the 1.
+fn sound_shift(shift: u16) -> bool
     ensures { λ r. ⌜ r ≡ soundShift shift ⌝ }
 {
-    let bits = shift.bits;
-    if 8 <= bits {
-        return false;
-    }
-    shift.byte >> bits == 0
+    (0 < shift) & (shift < 256)
 }
 
-fn sound_source(f: Figure, source: Source) -> bool
-    ensures { λ r. ⌜ r ≡ soundSource f source ⌝ }
+// How many bytes there are to show.
+fn shown_length(f: Figure, what: What) -> usize
+    ensures { λ r. ⌜ r ≡ shownLength f what ⌝ }
 {
-    match source {
-        Source::Array(at) => at < f.size,
-        Source::Status => true,
+    match what {
+        What::Array => f.size,
+        What::Status => 1,
     }
 }
 
@@ -32,25 +28,14 @@ pub fn sound_stage(f: Figure, stage: Stage) -> bool
 {
     match stage {
         Stage::Closed => true,
-        Stage::Code(shift) => sound_shift(shift),
-        Stage::Upper(upper) => {
-            let shift = upper.shift;
-            (f.address_bytes == 2) & sound_shift(shift)
-        }
-        Stage::Lower(lower) => {
-            let shift = lower.shift;
-            ((lower.page as usize) * 256 < f.size) & sound_shift(shift)
-        }
-        Stage::Ready(source) => sound_source(f, source),
-        Stage::Showing(shown) => {
-            let source = shown.source;
-            (shown.bit < 8) & sound_source(f, source)
-        }
-        Stage::Writing(writer) => {
-            let shift = writer.shift;
-            (writer.at < f.size) & sound_shift(shift)
-        }
-        Stage::Keeping(shift) => sound_shift(shift),
-        Stage::Over(_) => true,
+        Stage::Code { shift } => sound_shift(shift),
+        Stage::Upper { shift, .. } => (f.address_bytes == 2) & sound_shift(shift),
+        Stage::Lower { shift, page, .. } => ((page as usize) * 256 < f.size) & sound_shift(shift),
+        Stage::Ready { what, at } => at < shown_length(f, what),
+        Stage::ArrayOut { bit, at, .. } => (at < f.size) & (bit < 8),
+        Stage::StatusOut { bit, .. } => bit < 8,
+        Stage::Writing { shift, at, .. } => (at < f.size) & sound_shift(shift),
+        Stage::Keeping { shift } => sound_shift(shift),
+        Stage::Over { .. } => true,
     }
 }

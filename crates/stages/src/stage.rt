@@ -1,57 +1,82 @@
 // The stage of a select. Each stage holds what it needs and no more, so that little can be written down that no
 // clocks give. Stages that take bits count seen rises; those that show bits count seen falls.
-// The order of the fields and the width of the page are chosen for speed (docs/SPEED.md): time a change of either.
+// The fields lie on one grid, chosen for speed: one byte, then a u16, then four bytes, then a usize, and no bool
+// (docs/SPEED.md says why): time a change.
 
-// The bits of a byte that came so far, the newest lowest.
-pub struct Shift {
-    pub bits: u8,
-    pub byte: u8,
+// A level, as a stage remembers it.
+pub enum Line {
+    Down,
+    Up,
 }
 
-// The upper address byte, where the part has two.
-pub struct UpperByte {
-    pub shift: Shift,
-    pub write: bool,
+// What a READ or a WRITE wants its address for.
+pub enum Purpose {
+    ToRead,
+    ToWrite,
 }
 
-// The last address byte; page is what the address has above it.
-pub struct LowerByte {
-    pub write: bool,
-    pub page: u16,
-    pub shift: Shift,
-}
-
-pub enum Source {
-    Array(usize),
+// What is shown.
+pub enum What {
+    Array,
     Status,
 }
 
-// What stands on SO: bit number `bit` of the source, at the level that it had at its fall.
-pub struct Shown {
-    pub source: Source,
-    pub bit: u8,
-    pub level: bool,
+// What of a WRITE's data came: nothing whole yet, or at least one whole byte.
+pub enum Came {
+    NoByte,
+    Bytes,
 }
 
-// A WRITE's data; whole: at least one whole byte came.
-pub struct Writer {
-    pub whole: bool,
-    pub shift: Shift,
-    pub at: usize,
+// What the close of a select does besides: nothing, or the latch drops.
+pub enum End {
+    Quiet,
+    Drops,
 }
 
+// `shift` is the bits of a byte that came so far, the newest lowest, with a 1 before them: 1 is none yet.
 pub enum Stage {
     // No select is open.
     Closed,
-    Code(Shift),
-    Upper(UpperByte),
-    Lower(LowerByte),
+    Code {
+        shift: u16,
+    },
+    // The upper address byte, where the part has two.
+    Upper {
+        purpose: Purpose,
+        shift: u16,
+    },
+    // The last address byte; page is what the address has above it.
+    Lower {
+        purpose: Purpose,
+        shift: u16,
+        page: u32,
+    },
     // The header of a READ or RDSR is whole, and its first fall is still to come.
-    Ready(Source),
-    Showing(Shown),
-    Writing(Writer),
+    Ready {
+        what: What,
+        at: usize,
+    },
+    // Bit number `bit` of a byte stands on SO, at the level that it had at its fall.
+    ArrayOut {
+        level: Line,
+        bit: u16,
+        at: usize,
+    },
+    StatusOut {
+        level: Line,
+        bit: u16,
+    },
+    Writing {
+        came: Came,
+        shift: u16,
+        at: usize,
+    },
     // WRSR's first data byte.
-    Keeping(Shift),
-    // Nothing more happens in this select; whether its close drops the latch.
-    Over(bool),
+    Keeping {
+        shift: u16,
+    },
+    // Nothing more happens in this select.
+    Over {
+        end: End,
+    },
 }

@@ -6,8 +6,11 @@ use mathlib.Core.List.{List, [], _∷_}
 use lib.Dec.{eqb}
 use lib.ListN.{replicate}
 use Rattle.stages.specs.declared.stage.Stage.{Stage}
-use Rattle.stages.specs.declared.stage.Stage.the-variants.{Code, Upper, Lower, Writing, Keeping, Showing, Ready}
-use Rattle.stages.specs.declared.stage.Source.the-variants.{Array}
+use Rattle.stages.specs.declared.stage.Stage.the-variants.{Code, Upper, Lower, Ready, ArrayOut, StatusOut, Writing, Keeping}
+use Rattle.stages.specs.declared.stage.Came.the-variants.{NoByte, Bytes}
+use Rattle.stages.specs.declared.stage.Line.the-variants.{Down}
+use Rattle.stages.specs.declared.stage.Purpose.the-variants.{ToRead, ToWrite}
+use Rattle.stages.specs.declared.stage.What.the-variants.{Array, Status}
 use Rattle.stages.specs.Bits.{fresh}
 use Rattle.lines.specs.Edges.{withSck, withWp, withSi, withHold, withStage}
 use Rattle.lines.specs.Lines.{atRest}
@@ -67,21 +70,17 @@ refused =
     ∷ refuses (withStage (atRest 1 0 false) false (Code fresh)) 512 0 4
     ∷ refuses (withStage (atRest 1 0 false) true (atRest 1 0 false .stage)) 512 0 4
     -- "an address not below the part's size"
-    ∷ refuses (in1 (Writing (record { at = 512; shift = fresh; whole = false }))) 512 11 4
-    ∷ refuses (in1 (Writing (record { at = 511; shift = fresh; whole = false }))) 512 11 0
-    ∷ refuses (in3 (Writing (record { at = 2048; shift = fresh; whole = false }))) 2048 11 4
-    ∷ refuses (in3 (Ready (Array 2048))) 2048 11 4 ∷ refuses (in3 (Ready (Array 2047))) 2048 11 0
-    ∷ refuses (in1 (Showing (record { source = Array 512; bit = 0; level = false }))) 512 11 4
-    ∷ refuses (in1 (Lower (record { write = true; page = 2; shift = fresh }))) 512 11 4
-    ∷ refuses (in1 (Lower (record { write = true; page = 1; shift = fresh }))) 512 11 0
-    ∷ refuses (in3 (Lower (record { write = true; page = 8; shift = fresh }))) 2048 11 4
+    ∷ refuses (in1 (Writing NoByte fresh 512)) 512 11 4 ∷ refuses (in1 (Writing NoByte fresh 511)) 512 11 0
+    ∷ refuses (in3 (Writing Bytes fresh 2048)) 2048 11 4 ∷ refuses (in3 (Writing Bytes fresh 2047)) 2048 11 0
+    ∷ refuses (in3 (Ready Array 2048)) 2048 11 4 ∷ refuses (in3 (Ready Array 2047)) 2048 11 0
+    ∷ refuses (in1 (ArrayOut Down 0 512)) 512 11 4 ∷ refuses (in1 (Ready Status 1)) 512 11 4
+    ∷ refuses (in1 (Lower ToWrite fresh 2)) 512 11 4 ∷ refuses (in1 (Lower ToWrite fresh 1)) 512 11 0
+    ∷ refuses (in3 (Lower ToRead fresh 8)) 2048 11 4 ∷ refuses (in3 (Lower ToRead fresh 7)) 2048 11 0
     -- "a partial byte or bit count that no number of clocks gives"
-    ∷ refuses (in1 (Code (record { bits = 8; byte = 0 }))) 512 11 4
-    ∷ refuses (in1 (Code (record { bits = 7; byte = 127 }))) 512 11 0
-    ∷ refuses (in1 (Keeping (record { bits = 2; byte = 4 }))) 512 11 4
-    ∷ refuses (in1 (Keeping (record { bits = 2; byte = 3 }))) 512 11 0
-    ∷ refuses (in1 (Upper (record { write = true; shift = fresh }))) 512 11 4
-    ∷ refuses (in1 (Showing (record { source = Array 0; bit = 8; level = false }))) 512 11 4
+    ∷ refuses (in1 (Code 0)) 512 11 4 ∷ refuses (in1 (Code 255)) 512 11 0 ∷ refuses (in1 (Code 256)) 512 11 4
+    ∷ refuses (in1 (Keeping 0)) 512 11 4 ∷ refuses (in1 (Keeping 256)) 512 11 4 ∷ refuses (in1 (Writing NoByte 256 0)) 512 11 4
+    ∷ refuses (in1 (Lower ToRead 256 0)) 512 11 4 ∷ refuses (in3 (Upper ToRead 256)) 2048 11 4 ∷ refuses (in3 (Upper ToRead 255)) 2048 11 0
+    ∷ refuses (in1 (Upper ToWrite fresh)) 512 11 4 ∷ refuses (in1 (ArrayOut Down 8 0)) 512 11 4 ∷ refuses (in1 (StatusOut Down 8)) 512 11 4
     ∷ []
 
 -- a power-up over an array of so many bytes

@@ -4,9 +4,11 @@ use Prim.Native.Nat.{ℕ}
 use mathlib.Core.Bool.{Bool, true, false}
 use mathlib.Core.List.{List, [], _∷_, _++_}
 use Rattle.parts.specs.declared.guards.Reason.the-variants.{LatchOff, Protect, Block}
-use Rattle.stages.specs.declared.stage.Source.the-variants.{Status}
+use Rattle.stages.specs.declared.stage.End.the-variants.{Quiet}
+use Rattle.stages.specs.declared.stage.Line.the-variants.{Down, Up}
 use Rattle.stages.specs.declared.stage.Stage.{Stage}
-use Rattle.stages.specs.declared.stage.Stage.the-variants.{Ready, Showing, Over}
+use Rattle.stages.specs.declared.stage.Stage.the-variants.{Ready, StatusOut, Over}
+use Rattle.stages.specs.declared.stage.What.the-variants.{Status}
 use Rattle.select.specs.declared.notes.Note.{Note}
 use Rattle.select.specs.declared.notes.Note.the-variants.{Latch, Stored, HeldBack, KeptSet, KeptHeldBack, PowerLost}
 use Rattle.lines.specs.Edges.{withSck, withSi, withHold, withStage}
@@ -85,7 +87,7 @@ others part =
 unfoldable pub ofCodes : List Example
 ofCodes =
     -- WREN at its eighth rise, with SCK still high; under eight clocks nothing
-    writes 1 0 (0 ∷ clocks 7 0x06 ++ 4 ∷ 3 ∷ []) (Latch true ∷ []) (withSck (withStage (atRest 1 0 true) true (Over false)) true)
+    writes 1 0 (0 ∷ clocks 7 0x06 ++ 4 ∷ 3 ∷ []) (Latch true ∷ []) (withSck (withStage (atRest 1 0 true) true (Over Quiet)) true)
     ∷ writes 1 0 (0 ∷ clocks 7 0x06 ++ 1 ∷ []) [] (idle 1 0 false true)
     -- "Each gives the latch note, changed or not."
     ∷ writes 1 0 (transfer (0x04 ∷ []) ++ wren ++ wren ++ transfer (0x04 ∷ [])) (Latch false ∷ Latch true ∷ Latch true ∷ Latch false ∷ []) (idle 1 0 false false)
@@ -115,9 +117,6 @@ ofCodes =
 abbrev shows : Stage → State
 shows stage = withStage (atRest 3 0x80 true) false stage
 
-abbrev status-bit : ℕ → Bool → Stage
-status-bit bit level = Showing (record { source = Status; bit = bit; level = level })
-
 -- RDSR up to the rise of its eighth bit
 abbrev eighth : List ℕ
 eighth = begins (0x05 ∷ []) ++ clocks 7 0x00 ++ 4 ∷ 3 ∷ []
@@ -140,17 +139,17 @@ ofOutput =
     ∷ accepts 1 0x04 (rdsr ++ wren ++ rdsr) (Latch true ∷ []) (0x04 ∷ 0x06 ∷ []) (idle 1 0x04 true false)
     ∷ accepts 2 0x08 (rdsr ++ wren ++ rdsr) (Latch true ∷ []) (0x08 ∷ 0x0A ∷ []) (idle 2 0x08 true false)
     -- the header's last rise shows nothing yet, its fall shows bit 7
-    ∷ accepts 3 0x80 (0 ∷ clocks 7 0x05 ++ 5 ∷ 3 ∷ []) [] [] (withSck (withSi (shows (Ready Status)) true) true)
-    ∷ drives 1 (accepts 3 0x80 (begins (0x05 ∷ [])) [] [] (withSi (shows (status-bit 7 true)) true))
+    ∷ accepts 3 0x80 (0 ∷ clocks 7 0x05 ++ 5 ∷ 3 ∷ []) [] [] (withSck (withSi (shows (Ready Status 0)) true) true)
+    ∷ drives 1 (accepts 3 0x80 (begins (0x05 ∷ [])) [] [] (withSi (shows (StatusOut Up 7)) true))
     -- an event without effect leaves SO as it is
-    ∷ drives 1 (accepts 3 0x80 (begins (0x05 ∷ []) ++ 2 ∷ 11 ∷ 8 ∷ 9 ∷ []) [] [] (withSi (shows (status-bit 7 true)) true))
+    ∷ drives 1 (accepts 3 0x80 (begins (0x05 ∷ []) ++ 2 ∷ 11 ∷ 8 ∷ 9 ∷ []) [] [] (withSi (shows (StatusOut Up 7)) true))
     -- "RDSR shows the status byte once; the fall after its eighth bit's rise releases SO": not that rise
-    ∷ drives 0 (accepts 3 0x80 eighth [] (0x80 ∷ []) (withSck (shows (status-bit 0 false)) true))
-    ∷ accepts 3 0x80 (eighth ++ 2 ∷ []) [] (0x80 ∷ []) (shows (Over false))
+    ∷ drives 0 (accepts 3 0x80 eighth [] (0x80 ∷ []) (withSck (shows (StatusOut Down 0)) true))
+    ∷ accepts 3 0x80 (eighth ++ 2 ∷ []) [] (0x80 ∷ []) (shows (Over Quiet))
     ∷ accepts 1 0x0C (transfer (0x05 ∷ 0x00 ∷ 0x00 ∷ [])) [] (0x0C ∷ []) (idle 1 0x0C false false)
     -- a refusal reads released, and the next answer has the level again
-    ∷ refuses (6 ∷ []) (accepts 3 0x80 (eighth ++ 6 ∷ []) [] (0x80 ∷ []) (withSck (shows (status-bit 0 false)) true))
-    ∷ drives 0 (refuses (6 ∷ []) (accepts 3 0x80 (eighth ++ 6 ∷ 3 ∷ []) [] (0x80 ∷ []) (withSck (shows (status-bit 0 false)) true)))
+    ∷ refuses (6 ∷ []) (accepts 3 0x80 (eighth ++ 6 ∷ []) [] (0x80 ∷ []) (withSck (shows (StatusOut Down 0)) true))
+    ∷ drives 0 (refuses (6 ∷ []) (accepts 3 0x80 (eighth ++ 6 ∷ 3 ∷ []) [] (0x80 ∷ []) (withSck (shows (StatusOut Down 0)) true)))
     -- "modes 0 and 3": SCK high at the fall of /CS, and its first fall comes before any bit
     ∷ accepts 1 0x0C (3 ∷ 0 ∷ 2 ∷ clocked 0x05 ++ clocked 0x00 ++ 1 ∷ []) [] (0x0C ∷ []) (idle 1 0x0C false false)
     -- "then the next address, rolling from the last to 0", on each size; bit 3 of READ is A8, and 03h reads the lower half
@@ -266,8 +265,8 @@ ofHold =
     ∷ writes 1 0 (6 ∷ 0 ∷ 1 ∷ 7 ∷ []) [] (atRest 1 0 true)
     ∷ writes 1 0 (0 ∷ clocks 7 0x06 ++ 6 ∷ 1 ∷ 0 ∷ 7 ∷ 4 ∷ 3 ∷ 2 ∷ 1 ∷ []) (Latch true ∷ []) (idle 1 0 true false)
     -- "SO is released. When /HOLD rises, SO shows again what it showed before."
-    ∷ accepts 3 0x80 (begins (0x05 ∷ []) ++ 6 ∷ 3 ∷ 2 ∷ []) [] [] (withHold (withSi (shows (status-bit 7 true)) true) LowCsLow)
-    ∷ drives 1 (accepts 3 0x80 (begins (0x05 ∷ []) ++ 6 ∷ 3 ∷ 2 ∷ 7 ∷ []) [] [] (withSi (shows (status-bit 7 true)) true))
+    ∷ accepts 3 0x80 (begins (0x05 ∷ []) ++ 6 ∷ 3 ∷ 2 ∷ []) [] [] (withHold (withSi (shows (StatusOut Up 7)) true) LowCsLow)
+    ∷ drives 1 (accepts 3 0x80 (begins (0x05 ∷ []) ++ 6 ∷ 3 ∷ 2 ∷ 7 ∷ []) [] [] (withSi (shows (StatusOut Up 7)) true))
     -- 14. "READ held after four data clocks, three pulses of SCK, released: the byte is whole."
     ∷ accepts 1 0
     (wren ++ transfer (0x02 ∷ 0x00 ∷ 0x54 ∷ []) ++ begins (0x03 ∷ 0x00 ∷ []) ++ clocks 4 0x00 ++ 6 ∷ 3 ∷ 2 ∷ 3 ∷ 2 ∷ 3 ∷ 2 ∷ 7 ∷ clocks 4 0x00 ++ 1 ∷ [])

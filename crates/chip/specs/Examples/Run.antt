@@ -8,10 +8,16 @@ use lib.Dec.{eqb}
 use Rattle.parts.specs.Figures.{figureOf}
 use Rattle.stages.specs.Bits.{lowBit}
 use Rattle.stages.specs.Clocked.{clocked}
-use Rattle.stages.specs.declared.stage.Source.{Source}
-use Rattle.stages.specs.declared.stage.Source.the-variants.{Array, Status}
+use Rattle.stages.specs.declared.stage.Came.the-variants.{NoByte, Bytes}
+use Rattle.stages.specs.declared.stage.End.the-variants.{Quiet, Drops}
+use Rattle.stages.specs.declared.stage.Line.{Line}
+use Rattle.stages.specs.declared.stage.Line.the-variants.{Down, Up}
+use Rattle.stages.specs.declared.stage.Purpose.{Purpose}
+use Rattle.stages.specs.declared.stage.Purpose.the-variants.{ToRead, ToWrite}
 use Rattle.stages.specs.declared.stage.Stage.{Stage}
-use Rattle.stages.specs.declared.stage.Stage.the-variants.{Closed, Code, Upper, Lower, Ready, Showing, Writing, Keeping, Over}
+use Rattle.stages.specs.declared.stage.Stage.the-variants.{Closed, Code, Upper, Lower, Ready, ArrayOut, StatusOut, Writing, Keeping, Over}
+use Rattle.stages.specs.declared.stage.What.{What}
+use Rattle.stages.specs.declared.stage.What.the-variants.{Array, Status}
 use Rattle.select.specs.Notes.{NoteNumbers, levelNumber, noteNumbers}
 use Rattle.select.specs.declared.notes.Note.{Note}
 use Rattle.select.specs.declared.notes.Note.the-variants.{Nothing, Latch, Stored, HeldBack, KeptSet, KeptHeldBack, PowerLost}
@@ -134,20 +140,31 @@ abbrev pub numbersOf : List Note → List ℕ
 numbersOf [] = []
 numbersOf (note ∷ notes) = noted (noteNumbers note) (numbersOf notes)
 
-abbrev pub sourceNumbers : Source → List ℕ
-sourceNumbers (Array at) = 0 ∷ at ∷ []
-sourceNumbers Status = 1 ∷ []
+abbrev pub whatNumber : What → ℕ
+whatNumber Array = 0
+whatNumber Status = 1
+
+abbrev pub purposeNumber : Purpose → ℕ
+purposeNumber ToRead = 0
+purposeNumber ToWrite = 1
+
+abbrev pub lineNumber : Line → ℕ
+lineNumber Down = 0
+lineNumber Up = 1
 
 abbrev pub stageNumbers : Stage → List ℕ
 stageNumbers Closed = 0 ∷ []
-stageNumbers (Code shift) = 1 ∷ shift .bits ∷ shift .byte ∷ []
-stageNumbers (Upper upper) = 2 ∷ lowBit (upper .write) ∷ upper .shift .bits ∷ upper .shift .byte ∷ []
-stageNumbers (Lower lower) = 3 ∷ lowBit (lower .write) ∷ lower .page ∷ lower .shift .bits ∷ lower .shift .byte ∷ []
-stageNumbers (Ready source) = 4 ∷ sourceNumbers source
-stageNumbers (Showing shown) = 5 ∷ shown .bit ∷ lowBit (shown .level) ∷ sourceNumbers (shown .source)
-stageNumbers (Writing w) = 6 ∷ lowBit (w .whole) ∷ w .at ∷ w .shift .bits ∷ w .shift .byte ∷ []
-stageNumbers (Keeping shift) = 7 ∷ shift .bits ∷ shift .byte ∷ []
-stageNumbers (Over whole) = 8 ∷ lowBit whole ∷ []
+stageNumbers (Code shift) = 1 ∷ shift ∷ []
+stageNumbers (Upper purpose shift) = 2 ∷ purposeNumber purpose ∷ shift ∷ []
+stageNumbers (Lower purpose shift page) = 3 ∷ purposeNumber purpose ∷ shift ∷ page ∷ []
+stageNumbers (Ready what at) = 4 ∷ whatNumber what ∷ at ∷ []
+stageNumbers (ArrayOut level bit at) = 5 ∷ lineNumber level ∷ bit ∷ at ∷ []
+stageNumbers (StatusOut level bit) = 6 ∷ lineNumber level ∷ bit ∷ []
+stageNumbers (Writing NoByte shift at) = 7 ∷ shift ∷ at ∷ []
+stageNumbers (Writing Bytes shift at) = 8 ∷ shift ∷ at ∷ []
+stageNumbers (Keeping shift) = 9 ∷ shift ∷ []
+stageNumbers (Over Quiet) = 10 ∷ []
+stageNumbers (Over Drops) = 11 ∷ []
 
 abbrev pub holdNumber : Hold → ℕ
 holdNumber High = 0

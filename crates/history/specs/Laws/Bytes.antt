@@ -1,8 +1,8 @@
 -- Bits, one by one, become bytes: what the bits so far come to is their whole bytes and the under eight bits that are
 -- left, and one bit more either joins those or, as the eighth, makes them a byte. A chip's shift register then holds the
--- number of the bits that are left and their value. Assumes nothing.
-use Prim.Native.Nat.{ℕ, suc, _+_, _*_, _/_, _^_, _≤_, _<_}
-use native.Mathlib.Nat.{mod-eq-of-lt, pow-suc, le-of-lt, le-of-eq, lt-of-lt-of-le, div-eq-of-lt}
+-- bits that are left, with a 1 before them. Assumes nothing.
+use Prim.Native.Nat.{ℕ, suc, _+_, _*_, _/_, _%_, _^_, _<_}
+use native.Mathlib.Nat.{pow-suc, lt-of-lt-of-le, div-eq-of-lt}
 use native.Mathlib.Omega.{arith}
 use native.Mathlib.Numerals.{add-one}
 use mathlib.Core.Bool.{Bool, true, false, cond}
@@ -10,11 +10,10 @@ use mathlib.Core.List.{List, [], _∷_, _++_, append-assoc, append-nil}
 use mathlib.Core.Path.{_≡_, refl, ap, _∙_}
 use lib.ListN.{length, length-append}
 use lib.Seq.{take-at, drop-at, getD-at}
-use lib.Bits.{or-shifted}
 use lib.Pow.{pow-mono}
-use borrow.Author.Tests.{lt-leb}
-use Rattle.stages.specs.Bits.{shifted, takeBit}
-use Rattle.stages.specs.declared.stage.Shift.{Shift}
+use borrow.Author.Tests.{lt-ltb, le-ltb}
+use Rattle.stages.specs.Bits.{lowBit, shifted, takeBit}
+use Rattle.stages.specs.SoundLaws.{shifted-is}
 use Rattle.stages.specs.declared.bits.Taken.the-variants.{Part, Whole}
 use Rattle.history.specs.Lines.{Bit}
 use Rattle.history.specs.Bytes.{Byte, value, byte, eights, bytes}
@@ -40,31 +39,43 @@ unfolding value
 value-lt [] = omega arith
 value-lt (b ∷ bs) = rw pow-suc (digit-lt (b .si) (2 ^ length bs) (value bs) (value-lt bs))
 
--- the shift register after some bits
-abbrev pub shiftOf : List Bit → Shift
-shiftOf r = record { bits = length r; byte = value r }
+-- the shift register after some bits: a 1 stands before them
+abbrev one : Bit
+one = record { si = true; wp = true }
 
-double : (v : ℕ) → v < 128 → v * 2 < 256
-double v h = omega arith
+abbrev pub shiftOf : List Bit → ℕ
+shiftOf r = value (one ∷ r)
 
-digit-or : (v : ℕ) (s : Bool) → v < 128 → shifted v s ≡ v * 2 + cond s 1 0
-digit-or v true h = rw (mod-eq-of-lt (double v h)) (or-shifted v 1 1 (omega arith))
-digit-or v false h = rw (mod-eq-of-lt (double v h)) (or-shifted v 1 0 (omega arith))
+shift-lt : (r : List Bit) (n : ℕ) → length r < n → shiftOf r < 2 ^ n
+shift-lt r n h = lt-of-lt-of-le (value-lt (one ∷ r)) (pow-mono h)
 
-value-taken : (r : List Bit) (b : Bit) → length r ≤ 7 → shifted (value r) (b .si) ≡ value (r ++ b ∷ [])
-value-taken r b h =
-    rw value-more (digit-or (value r) (b .si) (lt-of-lt-of-le (value-lt r) (pow-mono h)))
+low-digit : (s : Bool) → lowBit s ≡ cond s 1 0
+low-digit true = refl
+low-digit false = refl
+
+value-taken : (r : List Bit) (b : Bit) → length r < 8 → shifted (shiftOf r) (b .si) ≡ shiftOf (r ++ b ∷ [])
+value-taken r b h = shifted-is (shiftOf r) (b .si) (shift-lt r 8 h) ∙ rw (low-digit, value-more (one ∷ r) b)
 
 pub taken-part : (r : List Bit) (b : Bit) → length r < 7 → takeBit (shiftOf r) (b .si) ≡ Part (shiftOf (r ++ b ∷ []))
 unfolding takeBit
-taken-part r b h = rw (lt-leb 7 (length r) h, value-taken r b (le-of-lt h), length-append r (b ∷ []))
+taken-part r b h =
+    rw (value-taken r b (omega arith), lt-ltb (shiftOf (r ++ b ∷ [])) 256 (shift-lt (r ++ b ∷ []) 8 (rw length-append (omega arith))))
 
-pub taken-whole : (r : List Bit) (b : Bit) → length r ≡ 7 → takeBit (shiftOf r) (b .si) ≡ Whole (value (r ++ b ∷ []))
-unfolding takeBit
-taken-whole r b h = rw (h, value-taken r b (le-of-eq h))
+-- a byte with a 1 before it
+ninth : (bs : List Bit) → length bs ≡ 8 → shiftOf bs ≡ 256 + value bs
+unfolding value
+ninth bs h = rw h
+
+full : (v : ℕ) → v < 256 → (256 + v) % 256 ≡ v
+full v h = omega arith
 
 pub value-whole : (r : List Bit) (b : Bit) → length r ≡ 7 → value (r ++ b ∷ []) < 256
 value-whole r b h = rw (length-append, h) at (value-lt (r ++ b ∷ []))
+
+pub taken-whole : (r : List Bit) (b : Bit) → length r ≡ 7 → takeBit (shiftOf r) (b .si) ≡ Whole (value (r ++ b ∷ []))
+unfolding takeBit
+taken-whole r b h =
+    rw (value-taken r b (omega arith), ninth (r ++ b ∷ []) (rw (length-append, h)), le-ltb (256 + value (r ++ b ∷ [])) 256 (omega arith), full (value (r ++ b ∷ [])) (value-whole r b h))
 
 bytes-short : (r : List Bit) → length r < 8 → bytes r ≡ []
 unfolding bytes eights

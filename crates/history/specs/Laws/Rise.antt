@@ -22,14 +22,18 @@ use Rattle.select.specs.Rise.{begun, storeNote, keptBy, opened, codeRise, upper
 use Rattle.stages.specs.declared.bits.Taken.the-variants.{Part, Whole}
 use Rattle.select.specs.declared.rise.Seen.{Seen}
 use Rattle.select.specs.declared.rise.Risen.{Risen}
-use Rattle.stages.specs.declared.stage.Shift.{Shift}
+use Rattle.stages.specs.declared.stage.Came.{Came}
+use Rattle.stages.specs.declared.stage.Came.the-variants.{Bytes}
+use Rattle.stages.specs.declared.stage.End.the-variants.{Drops}
+use Rattle.stages.specs.declared.stage.Purpose.{Purpose}
+use Rattle.stages.specs.declared.stage.Purpose.the-variants.{ToRead, ToWrite}
 use Rattle.stages.specs.declared.stage.Stage.{Stage}
 use Rattle.stages.specs.declared.stage.Stage.the-variants.{Upper, Lower, Writing, Over}
 use Rattle.chip.specs.Event.{written}
 use Rattle.history.specs.Bytes.{Byte, topBit, number, readAs, reading}
-use Rattle.history.specs.History.{World, storeIf, stored, overlay, keepIf, keepFirst, effect, atLeastOne}
+use Rattle.history.specs.History.{World, storeIf, stored, overlay, keepIf, keepFirst, effect}
 use Rattle.history.specs.Laws.Addresses.{Top, inCode, nowhere, top-of, next-place, start-one, start-two}
-use Rattle.history.specs.Laws.Stage.{settle, settle-elim, twoBytes, Progress, upper, lower, past, progress, stageIn, worldIn, world-write, stageAs, stageOf}
+use Rattle.history.specs.Laws.Stage.{settle, settle-elim, twoBytes, Progress, upper, lower, past, progress, came, stageIn, worldIn, world-write, stageAs, stageOf}
 
 -- the stage, settled, and the world
 pub record Picture : Type 0 where
@@ -47,7 +51,7 @@ drawn xs r =
       world = record { latch = r .latch; kept = r .kept; array = written (r .note) xs };
     }
 
-abbrev pub picture : Figure → World → Shift → List Byte → Picture
+abbrev pub picture : Figure → World → ℕ → List Byte → Picture
 picture f w sh bs = record { stage = stageOf f sh bs; world = effect f w (reading f bs) }
 
 abbrev pub seenIn : World → Bool → Bool → Seen
@@ -62,16 +66,16 @@ pub settle-rise :
     (f : Figure) (w : World) (wp si : Bool) (stage : Stage) → rising f w wp si (settle stage) ≡ rising f w wp si stage
 unfolding rise settle
 settle-rise f w wp si =
-    settle-elim (λ a b. rising f w wp si a ≡ rising f w wp si b) (λ stage. refl) (λ source. refl) (λ shown. refl)
+    settle-elim (λ a b. rising f w wp si a ≡ rising f w wp si b) (λ stage. refl) (λ what at. refl) (λ level bit at. refl) (λ level bit. refl)
 
 -- a bit that makes no byte whole
-module _ (f : Figure) (v : World) (sh more : Shift) (wp si : Bool) (t : takeBit sh si ≡ Part more) where
-  part-in : (write : Bool) (p : Progress) → rising f v wp si (stageIn f sh write p) ≡ painted (stageIn f more write p) v
+module _ (f : Figure) (v : World) (sh more : ℕ) (wp si : Bool) (t : takeBit sh si ≡ Part more) where
+  part-in : (purpose : Purpose) (p : Progress) → rising f v wp si (stageIn f sh purpose p) ≡ painted (stageIn f more purpose p) v
   unfolding rise stageIn upperRise lowerRise writeRise settle written
-  part-in write upper = rw t
-  part-in write (lower page) = rw t
-  part-in true (past start bs) = rw t
-  part-in false (past start bs) = refl
+  part-in purpose upper = rw t
+  part-in purpose (lower page) = rw t
+  part-in ToWrite (past start bs) = rw t
+  part-in ToRead (past start bs) = refl
 
   part-as : (code : ℕ) (bs : List Byte) (c : Command) → rising f v wp si (stageAs f sh code bs c) ≡ painted (stageAs f more code bs c) v
   unfolding rise stageAs keepRise settle written
@@ -80,8 +84,8 @@ module _ (f : Figure) (v : World) (sh more : Shift) (wp si : Bool) (t : takeBit 
   part-as code bs Rdsr = refl
   part-as code [] Wrsr = rw t
   part-as code (b ∷ bs) Wrsr = refl
-  part-as code bs Read = part-in false (progress f (twoBytes f) code bs)
-  part-as code bs Write = part-in true (progress f (twoBytes f) code bs)
+  part-as code bs Read = part-in ToRead (progress f (twoBytes f) code bs)
+  part-as code bs Write = part-in ToWrite (progress f (twoBytes f) code bs)
   part-as code bs Other = refl
 
   pub part-rise : (bs : List Byte) → rising f v wp si (stageOf f sh bs) ≡ painted (stageOf f more bs) v
@@ -90,8 +94,8 @@ module _ (f : Figure) (v : World) (sh more : Shift) (wp si : Bool) (t : takeBit 
   part-rise (op ∷ bs) = part-as (op .value) bs (command (f .codes) (op .value))
 
 -- one data byte more
-one-more : (bs : List Byte) (b : Byte) → atLeastOne (bs ++ b ∷ []) ≡ true
-unfolding atLeastOne
+one-more : (bs : List Byte) (b : Byte) → came (bs ++ b ∷ []) ≡ Bytes
+unfolding came
 one-more [] b = refl
 one-more (c ∷ bs) b = refl
 
@@ -105,7 +109,7 @@ overlay-more f start k w (c ∷ bs) b =
     (overlay-more f start (k + 1) (stored f w ((start + k) % f .size) c) bs b)
 
 -- a bit that makes a byte whole
-module _ (f : Figure) (fair : Fair f) (w : World) (sh : Shift) (si : Bool)
+module _ (f : Figure) (fair : Fair f) (w : World) (sh : ℕ) (si : Bool)
     (b : Byte) (small : b .value < 256) (t : takeBit sh si ≡ Whole (b .value)) where
   note-stored :
       (v : World) (at : ℕ) (verdict : Verdict)
@@ -117,12 +121,12 @@ module _ (f : Figure) (fair : Fair f) (w : World) (sh : Shift) (si : Bool)
 
   data-whole :
       (start : ℕ) (bs : List Byte)
-      → rising f (overlay f start 0 w bs) (b .wp) si (stageIn f sh true (past start bs))
-      ≡ painted (stageIn f fresh true (past start (bs ++ b ∷ []))) (overlay f start 0 w (bs ++ b ∷ []))
+      → rising f (overlay f start 0 w bs) (b .wp) si (stageIn f sh ToWrite (past start bs))
+      ≡ painted (stageIn f fresh ToWrite (past start (bs ++ b ∷ []))) (overlay f start 0 w (bs ++ b ∷ []))
   unfolding rise stageIn writeRise settle
   data-whole start bs =
       rw (t, next-place f fair (start + length bs), overlay-more f start 0 w bs b, zero-add, one-more, length-append, ← add-assoc)
-      (ap (painted (Writing (record { at = (start + length bs + 1) % f .size; shift = fresh; whole = true })))
+      (ap (painted (Writing Bytes fresh ((start + length bs + 1) % f .size)))
       (note-stored v at (mayStore f (v .latch) (v .kept) (b .wp) at)))
     where
       v : World
@@ -132,25 +136,25 @@ module _ (f : Figure) (fair : Fair f) (w : World) (sh : Shift) (si : Bool)
       at = (start + length bs) % f .size
 
   memory-whole :
-      (write two : Bool) → Top (f .codes .top) two → (code : ℕ) (bs : List Byte)
-      → rising f (worldIn f w write (progress f two code bs)) (b .wp) si (stageIn f sh write (progress f two code bs))
-      ≡ painted (stageIn f fresh write (progress f two code (bs ++ b ∷ [])))
-      (worldIn f w write (progress f two code (bs ++ b ∷ [])))
-  unfolding rise stageIn progress worldIn upperRise lowerRise settle written overlay afterAddress atLeastOne
-  memory-whole true false (inCode k u) code [] = rw (t, start-one f fair code b k u small)
-  memory-whole true false (inCode k u) code (l ∷ bs) = data-whole (number (topBit f code) (l ∷ []) % f .size) bs
-  memory-whole true true (nowhere u) code [] = rw t
-  memory-whole true true (nowhere u) code (h ∷ []) = rw (t, start-two f fair code h b u small)
-  memory-whole true true (nowhere u) code (h ∷ l ∷ bs) = data-whole (number (topBit f code) (h ∷ l ∷ []) % f .size) bs
-  memory-whole false false (inCode k u) code [] = rw t
-  memory-whole false false (inCode k u) code (l ∷ bs) = refl
-  memory-whole false true (nowhere u) code [] = rw t
-  memory-whole false true (nowhere u) code (h ∷ []) = rw t
-  memory-whole false true (nowhere u) code (h ∷ l ∷ bs) = refl
+      (purpose : Purpose) (two : Bool) → Top (f .codes .top) two → (code : ℕ) (bs : List Byte)
+      → rising f (worldIn f w purpose (progress f two code bs)) (b .wp) si (stageIn f sh purpose (progress f two code bs))
+      ≡ painted (stageIn f fresh purpose (progress f two code (bs ++ b ∷ [])))
+      (worldIn f w purpose (progress f two code (bs ++ b ∷ [])))
+  unfolding rise stageIn progress worldIn upperRise lowerRise settle written overlay afterAddress came
+  memory-whole ToWrite false (inCode k u) code [] = rw (t, start-one f fair code b k u small)
+  memory-whole ToWrite false (inCode k u) code (l ∷ bs) = data-whole (number (topBit f code) (l ∷ []) % f .size) bs
+  memory-whole ToWrite true (nowhere u) code [] = rw t
+  memory-whole ToWrite true (nowhere u) code (h ∷ []) = rw (t, start-two f fair code h b u small)
+  memory-whole ToWrite true (nowhere u) code (h ∷ l ∷ bs) = data-whole (number (topBit f code) (h ∷ l ∷ []) % f .size) bs
+  memory-whole ToRead false (inCode k u) code [] = rw t
+  memory-whole ToRead false (inCode k u) code (l ∷ bs) = refl
+  memory-whole ToRead true (nowhere u) code [] = rw t
+  memory-whole ToRead true (nowhere u) code (h ∷ []) = rw t
+  memory-whole ToRead true (nowhere u) code (h ∷ l ∷ bs) = refl
 
   note-kept :
       (verdict : Verdict)
-      → drawn (w .array) (keptBy f (seenIn w (b .wp) si) (b .value) verdict) ≡ painted (Over true) (keepIf f w b verdict)
+      → drawn (w .array) (keptBy f (seenIn w (b .wp) si) (b .value) verdict) ≡ painted (Over Drops) (keepIf f w b verdict)
   unfolding written keepIf settle
   note-kept Allowed = refl
   note-kept (HeldBack reason) = refl
@@ -165,19 +169,19 @@ module _ (f : Figure) (fair : Fair f) (w : World) (sh : Shift) (si : Bool)
   whole-as code bs Rdsr = refl
   whole-as code [] Wrsr = rw t (note-kept (mayKeep f (w .latch) (w .kept) (b .wp)))
   whole-as code (d ∷ bs) Wrsr = refl
-  whole-as code bs Read = memory-whole false (twoBytes f) (top-of (fair .header)) code bs
+  whole-as code bs Read = memory-whole ToRead (twoBytes f) (top-of (fair .header)) code bs
   whole-as code bs Write =
       rw (← world-write f w code bs (fair .header), ← world-write f w code (bs ++ b ∷ []) (fair .header))
-      (memory-whole true (twoBytes f) (top-of (fair .header)) code bs)
+      (memory-whole ToWrite (twoBytes f) (top-of (fair .header)) code bs)
   whole-as code bs Other = refl
 
   -- the op-code
-  header-none : (write two : Bool) (code : ℕ)
-      → settle (cond two (Upper (record { write = write; shift = fresh })) (Lower (record { write = write; page = codePage f code; shift = fresh })))
-      ≡ stageIn f fresh write (progress f two code [])
+  header-none : (purpose : Purpose) (two : Bool) (code : ℕ)
+      → settle (cond two (Upper purpose fresh) (Lower purpose fresh (codePage f code)))
+      ≡ stageIn f fresh purpose (progress f two code [])
   unfolding settle stageIn progress
-  header-none write true code = refl
-  header-none write false code = refl
+  header-none purpose true code = refl
+  header-none purpose false code = refl
 
   whole-op : (c : Command)
       → drawn (w .array) (begun f (seenIn w (b .wp) si) (b .value) c)
@@ -187,10 +191,10 @@ module _ (f : Figure) (fair : Fair f) (w : World) (sh : Shift) (si : Bool)
   whole-op Wrdi = refl
   whole-op Rdsr = refl
   whole-op Wrsr = refl
-  whole-op Read = ap (λ (stage : Stage). painted stage w) (header-none false (twoBytes f) (b .value))
+  whole-op Read = ap (λ (stage : Stage). painted stage w) (header-none ToRead (twoBytes f) (b .value))
   whole-op Write =
       rw (drop-nil (f .«address_bytes»))
-      (ap (λ (stage : Stage). painted stage w) (header-none true (twoBytes f) (b .value)))
+      (ap (λ (stage : Stage). painted stage w) (header-none ToWrite (twoBytes f) (b .value)))
   whole-op Other = refl
 
   pub whole-rise :

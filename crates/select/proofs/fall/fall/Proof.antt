@@ -20,29 +20,50 @@ enum-told-4 c = search needs
 enum-known-stage : tie.Need-enum-known-stage
 enum-known-stage c = search needs
 
-show-requires : tie.Need-show-requires
-show-requires c κs = search needs
-
-enum-known-stage-2 : tie.Need-enum-known-stage-2
-enum-known-stage-2 c = search needs
-
-after-byte-requires : tie.Need-after-byte-requires
-after-byte-requires c κs = search needs
-
-sub-show : tie.Need-sub-show
-sub-show c = search needs
-
-show-requires-2 : tie.Need-show-requires-2
-show-requires-2 c κs = search needs
-
 enum-told-5 : tie.Need-enum-told-5
 enum-told-5 c = search needs
+
+show-array-requires : tie.Need-show-array-requires
+show-array-requires c κs = search needs
 
 enum-told-6 : tie.Need-enum-told-6
 enum-told-6 c = search needs
 
+show-status-requires : tie.Need-show-status-requires
+show-status-requires c κs = search needs
+
+enum-known-stage-2 : tie.Need-enum-known-stage-2
+enum-known-stage-2 c = search needs
+
+next-address-requires : tie.Need-next-address-requires
+next-address-requires c κs = search needs
+
+show-array-requires-2 : tie.Need-show-array-requires-2
+show-array-requires-2 c κs = search needs
+
+sub-show-array : tie.Need-sub-show-array
+sub-show-array c = search needs
+
+show-array-requires-3 : tie.Need-show-array-requires-3
+show-array-requires-3 c κs = search needs
+
+enum-known-stage-3 : tie.Need-enum-known-stage-3
+enum-known-stage-3 c = search needs
+
+sub-show-status : tie.Need-sub-show-status
+sub-show-status c = search needs
+
+show-status-requires-2 : tie.Need-show-status-requires-2
+show-status-requires-2 c κs = search needs
+
 enum-told-7 : tie.Need-enum-told-7
 enum-told-7 c = search needs
+
+enum-told-8 : tie.Need-enum-told-8
+enum-told-8 c = search needs
+
+enum-told-9 : tie.Need-enum-told-9
+enum-told-9 c = search needs
 
 returns : tie.Need-returns
 unfolding fall
@@ -62,27 +83,39 @@ returns-4 c = simp (c .enum-told4 .given .1)
 
 returns-5 : tie.Need-returns-5
 unfolding fall
-returns-5 c = simp (c .show .ensures, c .before .before .stage .given .1)
+returns-5 c = simp (c .show-array .ensures, c .before .enum-told5 .given .1, c .before .before .before .before .stage .given .1)
 
 returns-6 : tie.Need-returns-6
 unfolding fall
-returns-6 c = simp (c .after-byte .ensures, c .before .if1 .taken, c .before .before .before .stage2 .given .1)
+returns-6 c = simp (c .show-status .ensures, c .before .enum-told6 .given .1, c .before .before .before .before .stage .given .1)
 
 returns-7 : tie.Need-returns-7
 unfolding fall
-returns-7 c = simp (c .show2 .ensures, ne-eqb _ _ (c .before .if1 .left), c .before .before .before .stage2 .given .1)
+returns-7 c = simp (c .show-array2 .ensures, c .before .next-address .ensures, c .before .before .if1 .taken, c .before .before .before .before .stage2 .given .1)
 
 returns-8 : tie.Need-returns-8
 unfolding fall
-returns-8 c = simp (c .enum-told5 .given .1)
+returns-8 c = simp (c .show-array3 .ensures, ne-eqb _ _ (c .before .if1 .left), c .before .before .before .stage2 .given .1)
 
 returns-9 : tie.Need-returns-9
 unfolding fall
-returns-9 c = simp (c .enum-told6 .given .1)
+returns-9 c = simp (c .if2 .taken, c .before .before .stage3 .given .1)
 
 returns-10 : tie.Need-returns-10
 unfolding fall
-returns-10 c = simp (c .enum-told7 .given .1)
+returns-10 c = simp (c .show-status2 .ensures, ne-eqb _ _ (c .before .if2 .left), c .before .before .before .stage3 .given .1)
+
+returns-11 : tie.Need-returns-11
+unfolding fall
+returns-11 c = simp (c .enum-told7 .given .1)
+
+returns-12 : tie.Need-returns-12
+unfolding fall
+returns-12 c = simp (c .enum-told8 .given .1)
+
+returns-13 : tie.Need-returns-13
+unfolding fall
+returns-13 c = simp (c .enum-told9 .given .1)
 
 pub fall-spec : {M : Type 1} → statement M
 fall-spec =
@@ -93,14 +126,21 @@ fall-spec =
     enum-told-3
     enum-told-4
     enum-known-stage
-    show-requires
-    enum-known-stage-2
-    after-byte-requires
-    sub-show
-    show-requires-2
     enum-told-5
+    show-array-requires
     enum-told-6
+    show-status-requires
+    enum-known-stage-2
+    next-address-requires
+    show-array-requires-2
+    sub-show-array
+    show-array-requires-3
+    enum-known-stage-3
+    sub-show-status
+    show-status-requires-2
     enum-told-7
+    enum-told-8
+    enum-told-9
     returns
     returns-2
     returns-3
@@ -110,4 +150,7 @@ fall-spec =
     returns-7
     returns-8
     returns-9
-    returns-10)
+    returns-10
+    returns-11
+    returns-12
+    returns-13)

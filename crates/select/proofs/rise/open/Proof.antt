@@ -22,9 +22,6 @@ to-stage-requires c κs = search needs
 enum-told-4 : tie.Need-enum-told-4
 enum-told-4 c = search needs
 
-no-bits-requires : tie.Need-no-bits-requires
-no-bits-requires c κs = search needs
-
 to-stage-requires-2 : tie.Need-to-stage-requires-2
 to-stage-requires-2 c κs = search needs
 
@@ -66,7 +63,7 @@ returns-3 c = simp (c .to-stage .ensures, ← c .before .before .before .decode 
 
 returns-4 : tie.Need-returns-4
 unfolding opened
-returns-4 c = simp (c .to-stage2 .ensures, c .before .no-bits .ensures, ← c .before .before .before .before .decode .ensures, c .before .before .enum-told4 .given .1)
+returns-4 c = simp (c .to-stage2 .ensures, ← c .before .before .before .decode .ensures, c .before .enum-told4 .given .1)
 
 returns-5 : tie.Need-returns-5
 unfolding opened
@@ -90,7 +87,6 @@ open-spec =
     enum-told-3
     to-stage-requires
     enum-told-4
-    no-bits-requires
     to-stage-requires-2
     enum-told-5
     header-requires

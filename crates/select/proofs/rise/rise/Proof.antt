@@ -40,6 +40,12 @@ enum-told-3 c = search needs
 to-stage-requires-3 : tie.Need-to-stage-requires-3
 to-stage-requires-3 c κs = search needs
 
+enum-told-4 : tie.Need-enum-told-4
+enum-told-4 c = search needs
+
+to-stage-requires-4 : tie.Need-to-stage-requires-4
+to-stage-requires-4 c κs = search needs
+
 enum-known-stage-4 : tie.Need-enum-known-stage-4
 enum-known-stage-4 c = search needs
 
@@ -52,11 +58,11 @@ enum-known-stage-5 c = search needs
 keep-rise-requires : tie.Need-keep-rise-requires
 keep-rise-requires c κs = search needs
 
-enum-told-4 : tie.Need-enum-told-4
-enum-told-4 c = search needs
+enum-told-5 : tie.Need-enum-told-5
+enum-told-5 c = search needs
 
-to-stage-requires-4 : tie.Need-to-stage-requires-4
-to-stage-requires-4 c κs = search needs
+to-stage-requires-5 : tie.Need-to-stage-requires-5
+to-stage-requires-5 c κs = search needs
 
 returns : tie.Need-returns
 unfolding rise
@@ -84,15 +90,19 @@ returns-6 c = simp (c .to-stage3 .ensures, c .before .enum-told3 .given .1)
 
 returns-7 : tie.Need-returns-7
 unfolding rise
-returns-7 c = simp (c .write-rise .ensures, c .before .before .stage4 .given .1)
+returns-7 c = simp (c .to-stage4 .ensures, c .before .enum-told4 .given .1)
 
 returns-8 : tie.Need-returns-8
 unfolding rise
-returns-8 c = simp (c .keep-rise .ensures, c .before .before .stage5 .given .1)
+returns-8 c = simp (c .write-rise .ensures, c .before .before .stage4 .given .1)
 
 returns-9 : tie.Need-returns-9
 unfolding rise
-returns-9 c = simp (c .to-stage4 .ensures, c .before .enum-told4 .given .1)
+returns-9 c = simp (c .keep-rise .ensures, c .before .before .stage5 .given .1)
+
+returns-10 : tie.Need-returns-10
+unfolding rise
+returns-10 c = simp (c .to-stage5 .ensures, c .before .enum-told5 .given .1)
 
 pub rise-spec : {M : Type 1} → statement M
 rise-spec =
@@ -110,12 +120,14 @@ rise-spec =
     to-stage-requires-2
     enum-told-3
     to-stage-requires-3
+    enum-told-4
+    to-stage-requires-4
     enum-known-stage-4
     write-rise-requires
     enum-known-stage-5
     keep-rise-requires
-    enum-told-4
-    to-stage-requires-4
+    enum-told-5
+    to-stage-requires-5
     returns
     returns-2
     returns-3
@@ -124,4 +136,5 @@ rise-spec =
     returns-6
     returns-7
     returns-8
-    returns-9)
+    returns-9
+    returns-10)

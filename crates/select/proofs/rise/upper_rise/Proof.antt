@@ -19,9 +19,6 @@ enum-known-taken-2 c = search needs
 upper-page-requires : tie.Need-upper-page-requires
 upper-page-requires c κs = search needs
 
-no-bits-requires : tie.Need-no-bits-requires
-no-bits-requires c κs = search needs
-
 to-stage-requires-2 : tie.Need-to-stage-requires-2
 to-stage-requires-2 c κs = search needs
 
@@ -31,7 +28,7 @@ returns c = simp (c .to-stage .ensures, ← c .before .before .before .before .t
 
 returns-2 : tie.Need-returns-2
 unfolding upperRise
-returns-2 c = simp (c .to-stage2 .ensures, c .before .no-bits .ensures, c .before .before .upper-page .ensures, ← c .before .before .before .before .before .before .take-bit .ensures, c .before .before .before .before .taken2 .given .1)
+returns-2 c = simp (c .to-stage2 .ensures, c .before .upper-page .ensures, ← c .before .before .before .before .before .take-bit .ensures, c .before .before .before .taken2 .given .1)
 
 pub upper-rise-spec : {M : Type 1} → statement M
 upper-rise-spec =
@@ -42,7 +39,6 @@ upper-rise-spec =
     to-stage-requires
     enum-known-taken-2
     upper-page-requires
-    no-bits-requires
     to-stage-requires-2
     returns
     returns-2)

@@ -25,16 +25,13 @@ store-note-requires c κs = search needs
 next-address-requires : tie.Need-next-address-requires
 next-address-requires c κs = search needs
 
-no-bits-requires : tie.Need-no-bits-requires
-no-bits-requires c κs = search needs
-
 returns : tie.Need-returns
 unfolding writeRise
 returns c = simp (c .to-stage .ensures, ← c .before .before .before .before .take-bit .ensures, c .before .before .taken .given .1)
 
 returns-2 : tie.Need-returns-2
 unfolding writeRise
-returns-2 c = simp (c .no-bits .ensures, c .before .next-address .ensures, c .before .before .store-note .ensures, c .before .before .before .may-store .ensures, ← c .before .before .before .before .before .before .before .take-bit .ensures, c .before .before .before .before .before .taken2 .given .1)
+returns-2 c = simp (c .next-address .ensures, c .before .store-note .ensures, c .before .before .may-store .ensures, ← c .before .before .before .before .before .before .take-bit .ensures, c .before .before .before .before .taken2 .given .1)
 
 pub write-rise-spec : {M : Type 1} → statement M
 write-rise-spec =
@@ -47,6 +44,5 @@ write-rise-spec =
     may-store-requires
     store-note-requires
     next-address-requires
-    no-bits-requires
     returns
     returns-2)

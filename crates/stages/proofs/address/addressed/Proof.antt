@@ -1,4 +1,4 @@
--- The address is below 65536 pages of 256 bytes, so it fits; WRITE and READ part after it.
+-- The address is below 2 ^ 32 pages of 256 bytes, so it fits; WRITE and READ part after it.
 use Rattle.stages.specs.Address.{afterAddress}
 use borrow.Author.Needs.{needs}
 use Rattle.stages.proofs.address.addressed.Statement.{statement}
@@ -10,16 +10,19 @@ mul-at c = search needs
 add-at : tie.Need-add-at
 add-at c = search needs
 
-no-bits-requires : tie.Need-no-bits-requires
-no-bits-requires c κs = search needs
+enum-told : tie.Need-enum-told
+enum-told c = search needs
+
+enum-told-2 : tie.Need-enum-told-2
+enum-told-2 c = search needs
 
 returns : tie.Need-returns
 unfolding afterAddress
-returns c = simp (c .before .no-bits .ensures, c .if1 .taken)
+returns c = simp (c .enum-told .given .1)
 
 returns-2 : tie.Need-returns-2
 unfolding afterAddress
-returns-2 c = simp (c .if1 .left)
+returns-2 c = simp (c .enum-told2 .given .1)
 
 pub addressed-spec : {M : Type 1} → statement M
-addressed-spec = tie.close (tie.spec mul-at add-at no-bits-requires returns returns-2)
+addressed-spec = tie.close (tie.spec mul-at add-at enum-told enum-told-2 returns returns-2)

@@ -5,19 +5,16 @@ use borrow.Author.Needs.{needs}
 use Rattle.stages.proofs.address.header.Statement.{statement}
 use Rattle.stages.proofs.address.header.Tie as tie
 
-no-bits-requires : tie.Need-no-bits-requires
-no-bits-requires c κs = search needs
-
 code-page-requires : tie.Need-code-page-requires
 code-page-requires c κs = search needs
 
 returns : tie.Need-returns
 unfolding afterCode
-returns c = simp (c .before .before .before .no-bits .ensures, c .if1 .taken)
+returns c = simp (c .if1 .taken)
 
 returns-2 : tie.Need-returns-2
 unfolding afterCode
-returns-2 c = simp (c .before .before .code-page .ensures, c .before .before .before .no-bits .ensures, ne-eqb _ _ (c .if1 .left))
+returns-2 c = simp (c .before .before .code-page .ensures, ne-eqb _ _ (c .if1 .left))
 
 pub header-spec : {M : Type 1} → statement M
-header-spec = tie.close (tie.spec no-bits-requires code-page-requires returns returns-2)
+header-spec = tie.close (tie.spec code-page-requires returns returns-2)

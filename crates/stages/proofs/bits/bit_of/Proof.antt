@@ -1,5 +1,5 @@
 -- Below bit 8 the code is the definition; from there on a byte has no bit left.
-use mathlib.Core.Path.{refl}
+use borrow.Author.Tests.{ne-eqb}
 use Rattle.stages.proofs.Shifts.{beyond}
 use Rattle.stages.specs.Bits.{bitOf}
 use borrow.Author.Needs.{needs}
@@ -10,12 +10,19 @@ returns : tie.Need-returns
 unfolding bitOf
 returns c = rw (beyond (c .before .fits .byte .fits) (c .if1 .taken))
 
-shr-result : tie.Need-shr-result
-shr-result c = search needs
+cast-if2 : tie.Need-cast-if2
+cast-if2 c = search needs
+
+shr-if2 : tie.Need-shr-if2
+shr-if2 c = search needs
 
 returns-2 : tie.Need-returns-2
 unfolding bitOf
-returns-2 c = refl
+returns-2 c = simp (c .if2 .taken)
+
+returns-3 : tie.Need-returns-3
+unfolding bitOf
+returns-3 c = simp (ne-eqb _ _ (c .if2 .left))
 
 pub bit-of-spec : {M : Type 1} → statement M
-bit-of-spec = tie.close (tie.spec returns shr-result returns-2)
+bit-of-spec = tie.close (tie.spec returns cast-if2 shr-if2 returns-2 returns-3)

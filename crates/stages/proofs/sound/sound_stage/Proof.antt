@@ -34,23 +34,23 @@ sound-shift-requires-3 c κs = search needs
 enum-known-stage-4 : tie.Need-enum-known-stage-4
 enum-known-stage-4 c = search needs
 
-sound-source-requires : tie.Need-sound-source-requires
-sound-source-requires c κs = search needs
+shown-length-requires : tie.Need-shown-length-requires
+shown-length-requires c κs = search needs
 
 enum-known-stage-5 : tie.Need-enum-known-stage-5
 enum-known-stage-5 c = search needs
 
-sound-source-requires-2 : tie.Need-sound-source-requires-2
-sound-source-requires-2 c κs = search needs
-
 enum-known-stage-6 : tie.Need-enum-known-stage-6
 enum-known-stage-6 c = search needs
+
+enum-known-stage-7 : tie.Need-enum-known-stage-7
+enum-known-stage-7 c = search needs
 
 sound-shift-requires-4 : tie.Need-sound-shift-requires-4
 sound-shift-requires-4 c κs = search needs
 
-enum-known-stage-7 : tie.Need-enum-known-stage-7
-enum-known-stage-7 c = search needs
+enum-known-stage-8 : tie.Need-enum-known-stage-8
+enum-known-stage-8 c = search needs
 
 sound-shift-requires-5 : tie.Need-sound-shift-requires-5
 sound-shift-requires-5 c κs = search needs
@@ -68,31 +68,35 @@ returns-2 c = simp (c .sound-shift .ensures, c .before .before .stage .given .1)
 
 returns-3 : tie.Need-returns-3
 unfolding soundStage
-returns-3 c = simp (c .sound-shift2 .ensures, c .before .before .before .before .stage2 .given .1)
+returns-3 c = simp (c .sound-shift2 .ensures, c .before .before .before .stage2 .given .1)
 
 returns-4 : tie.Need-returns-4
 unfolding soundStage
-returns-4 c = simp (c .sound-shift3 .ensures, c .before .before .before .before .before .stage3 .given .1)
+returns-4 c = simp (c .sound-shift3 .ensures, c .before .before .before .stage3 .given .1)
 
 returns-5 : tie.Need-returns-5
 unfolding soundStage
-returns-5 c = simp (c .sound-source .ensures, c .before .before .stage4 .given .1)
+returns-5 c = simp (c .shown-length .ensures, c .before .before .stage4 .given .1)
 
 returns-6 : tie.Need-returns-6
 unfolding soundStage
-returns-6 c = simp (c .sound-source2 .ensures, c .before .before .before .stage5 .given .1)
+returns-6 c = simp (c .before .before .stage5 .given .1)
 
 returns-7 : tie.Need-returns-7
 unfolding soundStage
-returns-7 c = simp (c .sound-shift4 .ensures, c .before .before .before .before .before .stage6 .given .1)
+returns-7 c = simp (c .before .stage6 .given .1)
 
 returns-8 : tie.Need-returns-8
 unfolding soundStage
-returns-8 c = simp (c .sound-shift5 .ensures, c .before .before .stage7 .given .1)
+returns-8 c = simp (c .sound-shift4 .ensures, c .before .before .before .stage7 .given .1)
 
 returns-9 : tie.Need-returns-9
 unfolding soundStage
-returns-9 c = simp (c .enum-told2 .given .1)
+returns-9 c = simp (c .sound-shift5 .ensures, c .before .before .stage8 .given .1)
+
+returns-10 : tie.Need-returns-10
+unfolding soundStage
+returns-10 c = simp (c .enum-told2 .given .1)
 
 pub sound-stage-spec : {M : Type 1} → statement M
 sound-stage-spec =
@@ -108,12 +112,12 @@ sound-stage-spec =
     mul-result
     sound-shift-requires-3
     enum-known-stage-4
-    sound-source-requires
+    shown-length-requires
     enum-known-stage-5
-    sound-source-requires-2
     enum-known-stage-6
-    sound-shift-requires-4
     enum-known-stage-7
+    sound-shift-requires-4
+    enum-known-stage-8
     sound-shift-requires-5
     enum-told-2
     returns
@@ -124,4 +128,5 @@ sound-stage-spec =
     returns-6
     returns-7
     returns-8
-    returns-9)
+    returns-9
+    returns-10)

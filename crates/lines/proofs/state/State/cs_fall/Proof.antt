@@ -7,16 +7,13 @@ use Rattle.lines.proofs.state.State.cs_fall.Tie as tie
 hold-high-requires : tie.Need-hold-high-requires
 hold-high-requires c κs = search needs
 
-no-bits-requires : tie.Need-no-bits-requires
-no-bits-requires c κs = search needs
-
 returns : tie.Need-returns
 unfolding csFall
-returns c = simp (c .no-bits .ensures, ← c .before .before .hold-high .ensures, c .before .if1 .taken)
+returns c = simp (← c .before .hold-high .ensures, c .if1 .taken)
 
 returns-2 : tie.Need-returns-2
 unfolding csFall
 returns-2 c = simp (← c .before .hold-high .ensures, c .if1 .left)
 
 pub cs-fall-spec : {M : Type 1} → statement M
-cs-fall-spec = tie.close (tie.spec hold-high-requires no-bits-requires returns returns-2)
+cs-fall-spec = tie.close (tie.spec hold-high-requires returns returns-2)

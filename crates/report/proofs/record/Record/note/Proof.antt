@@ -38,7 +38,7 @@ returns-2 c = simp (c .enum-told2 .given .1)
 
 returns-3 : tie.Need-returns-3
 unfolding noted
-returns-3 c = simp (c .before .count .ensures, c .before .before .enum-told3 .given .1)
+returns-3 c = simp (c .count .ensures, c .before .enum-told3 .given .1)
 
 returns-4 : tie.Need-returns-4
 unfolding noted

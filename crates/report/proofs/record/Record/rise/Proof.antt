@@ -22,9 +22,6 @@ enum-known-byte c = search needs
 keep-requires : tie.Need-keep-requires
 keep-requires c κs = search needs
 
-no-bits-requires : tie.Need-no-bits-requires
-no-bits-requires c κs = search needs
-
 count-requires-2 : tie.Need-count-requires-2
 count-requires-2 c κs = search needs
 
@@ -38,8 +35,8 @@ returns c = (
 returns-2 : tie.Need-returns-2
 unfolding risen shownAfter
 returns-2 c = (
-  simp (c .count2 .ensures, c .before .no-bits .ensures, ← c .before .before .before .before .before .before .before .sample .ensures, ← c .before .before .before .before .before .before .before .before .code-after .ensures, ← c .before .before .before .before .before .before .before .before .before .count .ensures, c .before .before .before .before .before .byte .given .1),
-  simp (c .before .before .keep .ensures, ← c .before .before .before .before .before .before .before .sample .ensures, c .before .before .before .before .before .byte .given .1),
+  simp (c .count2 .ensures, ← c .before .before .before .before .before .before .sample .ensures, ← c .before .before .before .before .before .before .before .code-after .ensures, ← c .before .before .before .before .before .before .before .before .count .ensures, c .before .before .before .before .byte .given .1),
+  simp (c .before .keep .ensures, ← c .before .before .before .before .before .before .sample .ensures, c .before .before .before .before .byte .given .1),
 )
 
 pub rise-spec : {M : Type 1} → statement M
@@ -52,7 +49,6 @@ rise-spec =
     enum-known-sample
     enum-known-byte
     keep-requires
-    no-bits-requires
     count-requires-2
     returns
     returns-2)

@@ -1,0 +1,15 @@
+-- The bit is what the call says.
+use Rattle.select.specs.Fall.{showStatus}
+use borrow.Author.Needs.{needs}
+use Rattle.select.proofs.fall.show_status.Statement.{statement}
+use Rattle.select.proofs.fall.show_status.Tie as tie
+
+bit-of-requires : tie.Need-bit-of-requires
+bit-of-requires c κs = search needs
+
+returns : tie.Need-returns
+unfolding showStatus
+returns c = simp (c .bit-of .ensures)
+
+pub show-status-spec : {M : Type 1} → statement M
+show-status-spec = tie.close (tie.spec bit-of-requires returns)
