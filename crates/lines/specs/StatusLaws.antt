@@ -4,7 +4,7 @@ use Prim.Native.Nat.{ℕ, zero, suc, _+_, _*_, _<_}
 use native.Mathlib.Omega.{arith}
 use native.Mathlib.Nat.{lt-of-le-of-lt}
 use mathlib.Core.Path.{_≡_, refl, sym, subst}
-use mathlib.Core.Bool.{Bool, true, false, not, _&&_, _||_}
+use mathlib.Core.Bool.{Bool, true, false, cond, not, _&&_, _||_}
 use borrow.Author.Tests.{eqb-true, eqb-false}
 use lib.Bits.{bitAnd, and-le-r}
 use lib.Dec.{eqb}
@@ -12,7 +12,8 @@ use lib.ListN.{length}
 use Rattle.parts.specs.FigureLaws.{fair, below-count}
 use Rattle.parts.specs.Figures.{parts, figureOf, inMask}
 use Rattle.parts.specs.TestLaws.{left, right}
-use Rattle.stages.specs.Bits.{bitOf, lowBit}
+use Rattle.stages.specs.Bits.{lowBit}
+use Rattle.stages.specs.Clocked.{bitAt}
 use Rattle.select.specs.Fall.{statusByte}
 use Rattle.lines.specs.Sound.{sound}
 use Rattle.lines.specs.SoundLaws.{good}
@@ -21,7 +22,7 @@ use Rattle.lines.specs.declared.state.State.{State}
 -- the byte, bit by bit
 abbrev pub statusBits : ℕ → ℕ → Bool → ℕ
 statusBits part kept latch =
-    lowBit (eqb part 3 && bitOf kept 7) * 128 + lowBit (bitOf kept 3) * 8 + lowBit (bitOf kept 2) * 4 + lowBit latch * 2
+    cond (eqb part 3) (bitAt kept 7) 0 * 128 + bitAt kept 3 * 8 + bitAt kept 2 * 4 + lowBit latch * 2
 
 -- every number below a bound passes a test
 allBelow : (ℕ → Bool) → ℕ → Bool
@@ -44,7 +45,7 @@ abbrev same : ℕ → Bool → ℕ → Bool
 same part latch kept = not (inMask part kept) || eqb (statusByte kept latch) (statusBits part kept latch)
 
 all-same : (latch : Bool) → allBelow (λ part. allBelow (same part latch) 256) (length parts) ≡ true
-unfolding allBelow figureOf bitOf
+unfolding allBelow figureOf
 all-same true = refl
 all-same false = refl
 
