@@ -5,13 +5,15 @@ use mathlib.Core.Bool.{Bool, true, false, cond}
 use mathlib.Core.List.{List, [], _∷_, _++_, append-assoc, append-nil}
 use Prim.Native.Nat.{ℕ}
 use lib.Dec.{eqb}
+use Rattle.lines.specs.declared.state.State.{State}
 use Rattle.chip.specs.Event.{event, written}
 use Rattle.chip.specs.declared.event.Answer.{Answer}
 use Rattle.report.specs.Items.{itemEvents}
-use Rattle.bench.specs.Bench.{Bench, Desk, goesOn, stopped, closing, taken, answered, afterEvent, deskOf, onPage, benchOf}
+use Rattle.bench.specs.Bench.{Bench, goesOn, stopped, closing, taken, answered, afterEvent, deskOf, onPage, benchOf}
 use Rattle.bench.specs.Page.{Page, pageOf, printed}
 use Rattle.bench.specs.Run.{afterEvents, afterItem, afterItems, itemsFrom, endedBy, ranFrom}
 use Rattle.bench.specs.Stand.{after, shownBy}
+use Rattle.bench.specs.declared.stand.Stand.{Stand}
 use Rattle.bench.specs.declared.turn.Turn.{Turn}
 use Rattle.bench.proofs.Pages.{print-none, print-twice}
 
@@ -24,18 +26,23 @@ front t b =
 abbrev pub Tells : (Bench → Bench) → Type 0
 Tells f = (t : List ℕ) (b : Bench) → f (front t b) ≡ front t (f b)
 
-pub tells-event : (code : ℕ) → Tells (λ b. afterEvent b code)
+tells-answer :
+    (t : List ℕ) (b : Bench) (next : State) (stand : Stand) (ys ps : List ℕ) (refusal : ℕ) (v : Bool)
+    → cond v (taken (front t b) next stand ys ps) (stopped (front t b) refusal)
+    ≡ front t (cond v (taken b next stand ys ps) (stopped b refusal))
+tells-answer t b next stand ys ps refusal true =
+    let line : List ℕ = closing (b .stand .chip) next stand ps in
+    λ i. record { refusal = 0; stand = stand; array = ys; shown = ps; text = append-assoc t (b .text) line i }
+tells-answer t b next stand ys ps refusal false = refl
+
+tells-event : (code : ℕ) → Tells (λ b. afterEvent b code)
 unfolding afterEvent
 tells-event code t b = go (event (b .array) (b .stand .chip) code)
   where
     go : (a : Answer) → answered (front t b) code a ≡ front t (answered b code a)
-    go a = pick (eqb (a .refusal) 0) (append-assoc t (b .text) (closing (b .stand .chip) (a .state) (after (b .stand) code a) (shownBy (b .shown) (b .stand) code)))
-      where
-        pick : (v : Bool) → (t ++ b .text) ++ closing (b .stand .chip) (a .state) (after (b .stand) code a) (shownBy (b .shown) (b .stand) code) ≡ t ++ (b .text ++ closing (b .stand .chip) (a .state) (after (b .stand) code a) (shownBy (b .shown) (b .stand) code))
-            → cond v (taken (front t b) (a .state) (after (b .stand) code a) (written (a .note) (b .array)) (shownBy (b .shown) (b .stand) code)) (stopped (front t b) (a .refusal))
-            ≡ front t (cond v (taken b (a .state) (after (b .stand) code a) (written (a .note) (b .array)) (shownBy (b .shown) (b .stand) code)) (stopped b (a .refusal)))
-        pick true e = λ i. record { refusal = 0; stand = after (b .stand) code a; array = written (a .note) (b .array); shown = shownBy (b .shown) (b .stand) code; text = e i }
-        pick false e = refl
+    go a =
+        tells-answer t b (a .state) (after (b .stand) code a) (written (a .note) (b .array))
+        (shownBy (b .shown) (b .stand) code) (a .refusal) (eqb (a .refusal) 0)
 
 pub tells-events : (es : List ℕ) → Tells (λ b. afterEvents b es)
 tells-events [] t b = refl
@@ -54,11 +61,11 @@ pub tells-ran : (s : List ℕ) (at : ℕ) → Tells (ranFrom s at)
 unfolding ranFrom
 tells-ran s at t b =
     ap (λ (x : Bench). endedBy x (itemsFrom s at .refusal)) (tells-items (itemsFrom s at .numbers) t b)
-    ∙ go (afterItems b (itemsFrom s at .numbers)) (goesOn (afterItems b (itemsFrom s at .numbers)))
+    ∙ go (afterItems b (itemsFrom s at .numbers)) (itemsFrom s at .refusal) (goesOn (afterItems b (itemsFrom s at .numbers)))
   where
-    go : (x : Bench) (v : Bool) → cond v (stopped (front t x) (itemsFrom s at .refusal)) (front t x) ≡ front t (cond v (stopped x (itemsFrom s at .refusal)) x)
-    go x true = refl
-    go x false = refl
+    go : (x : Bench) (row : ℕ) (v : Bool) → cond v (stopped (front t x) row) (front t x) ≡ front t (cond v (stopped x row) x)
+    go x row true = refl
+    go x row false = refl
 
 -- a turn that told nothing yet
 pub desk-is : (t : Turn) (xs os out : List ℕ) → deskOf t xs os out ≡ onPage (pageOf out (t .at)) (benchOf t xs os)
@@ -73,7 +80,9 @@ carry f tells t ys ps out p b e =
     ∙ ap (onPage p) (sym (tells (b .text) (benchOf t ys ps)) ∙ ap f same)
   where
     behind : (x : List ℕ) (c : Bench) → onPage p (front x c) ≡ onPage (printed p x) c
-    behind x c = λ i. record { refusal = c .refusal; stand = c .stand; array = c .array; shown = c .shown; page = sym (print-twice (p .bytes) (p .at) x (c .text)) i }
+    behind x c =
+        let e : printed p (x ++ c .text) ≡ printed (printed p x) (c .text) = sym (print-twice (p .bytes) (p .at) x (c .text)) in
+        λ i. record { refusal = c .refusal; stand = c .stand; array = c .array; shown = c .shown; page = e i }
 
     same : front (b .text) (benchOf t ys ps) ≡ b
     same = λ i. record { refusal = e i .refusal; stand = e i .stand; array = e i .array; shown = e i .shown; text = append-nil (b .text) i }

@@ -15,7 +15,7 @@ use Rattle.chip.specs.Event.{event, written}
 use Rattle.chip.specs.Outcomes.{paper-one}
 use Rattle.chip.specs.RefusalLaws.{refusal-stays}
 use Rattle.chip.specs.declared.event.Answer.{Answer}
-use Rattle.bench.specs.Bench.{Bench, Desk, stopped, selectText, closing, afterEvent, deskOf, onPage, benchOf}
+use Rattle.bench.specs.Bench.{Bench, stopped, selectText, closing, afterEvent, deskOf, onPage, benchOf}
 use Rattle.bench.specs.Page.{Page, pageOf, printed}
 use Rattle.bench.specs.Run.{afterEvents}
 use Rattle.bench.specs.Stand.{closes, after, shownBy}
@@ -37,19 +37,26 @@ module _ (t : Turn) (xs os out : List ℕ) (code : ℕ) (a : Answer) (ys : List 
       rw (stores, refusal-stays (t .stand .chip) xs code no, ← same, ne-eqb _ _ h)
 
   pub event-refused : (a .refusal ≡ 0 → ⊥)
-      → deskOf (record { refusal = a .refusal; stand = t .stand; at = t .at }) ys os out ≡ onPage (pageOf out (t .at)) (afterEvent (benchOf t xs os) code)
-  event-refused h = desk-is (record { refusal = a .refusal; stand = t .stand; at = t .at }) ys os out ∙ ap (onPage (pageOf out (t .at))) (refuses h)
+      → deskOf (record { refusal = a .refusal; stand = t .stand; at = t .at }) ys os out
+      ≡ onPage (pageOf out (t .at)) (afterEvent (benchOf t xs os) code)
+  event-refused h =
+      desk-is (record { refusal = a .refusal; stand = t .stand; at = t .at }) ys os out
+      ∙ ap (onPage (pageOf out (t .at))) (refuses h)
 
-  module _ (next : Stand) (ps : List ℕ) (on : a .refusal ≡ 0) (moved : next ≡ after (t .stand) code a) (shows : ps ≡ shownBy os (t .stand) code) where
-    takes : record { refusal = 0; stand = next; array = ys; shown = ps; text = closing (t .stand .chip) (a .state) next ps } ≡ afterEvent (benchOf t xs os) code
+  module _ (next : Stand) (ps : List ℕ) (on : a .refusal ≡ 0)
+      (moved : next ≡ after (t .stand) code a) (shows : ps ≡ shownBy os (t .stand) code) where
+    takes : record { refusal = 0; stand = next; array = ys; shown = ps; text = closing (t .stand .chip) (a .state) next ps }
+        ≡ afterEvent (benchOf t xs os) code
     unfolding afterEvent
     takes = rw (moved, shows, stores, ← same, eq-eqb _ _ on)
 
     told : (v : Bool) (page : Page) → v ≡ closes (t .stand .chip) (a .state)
         → page ≡ printed (pageOf out (t .at)) (cond v (selectText next ps) [])
-        → record { refusal = 0; stand = next; array = ys; shown = ps; page = page } ≡ onPage (pageOf out (t .at)) (afterEvent (benchOf t xs os) code)
+        → record { refusal = 0; stand = next; array = ys; shown = ps; page = page }
+        ≡ onPage (pageOf out (t .at)) (afterEvent (benchOf t xs os) code)
     told v page which e =
-        (λ i. record { refusal = 0; stand = next; array = ys; shown = ps; page = (e ∙ ap (λ (w : Bool). printed (pageOf out (t .at)) (cond w (selectText next ps) [])) which) i })
+        let line = ap (λ (w : Bool). printed (pageOf out (t .at)) (cond w (selectText next ps) [])) which in
+        (λ i. record { refusal = 0; stand = next; array = ys; shown = ps; page = (e ∙ line) i })
         ∙ ap (onPage (pageOf out (t .at))) takes
 
     pub event-closes : (v : Bool) (r : ℕ) (out′ : List ℕ) → v ≡ closes (t .stand .chip) (a .state) → v ≡ true
@@ -70,7 +77,8 @@ pub events-on :
     (es : List ℕ) (k n code : ℕ) (t : Turn) (xs os out : List ℕ) (r : Turn) (ys ps out′ : List ℕ)
     → n ≡ length es → k < n → code ≡ getD es k 0 → t .refusal ≡ 0
     → deskOf r ys ps out′ ≡ onPage (pageOf out (t .at)) (afterEvent (benchOf t xs os) code)
-    → onPage (pageOf out′ (r .at)) (afterEvents (benchOf r ys ps) (drop (k + 1) es)) ≡ onPage (pageOf out (t .at)) (afterEvents (benchOf t xs os) (drop k es))
+    → onPage (pageOf out′ (r .at)) (afterEvents (benchOf r ys ps) (drop (k + 1) es))
+    ≡ onPage (pageOf out (t .at)) (afterEvents (benchOf t xs os) (drop k es))
 events-on es k n code t xs os out r ys ps out′ long inside is on one =
     carry (λ b. afterEvents b (drop (k + 1) es)) (tells-events (drop (k + 1) es)) r ys ps out′ _ _ one
     ∙ ap (onPage (pageOf out (t .at))) (sym first)

@@ -1,17 +1,18 @@
 -- Printing on a page: nothing, on a full page, one byte, and one text behind another, which is printing them as one.
 -- Assumes nothing.
-use mathlib.Core.Path.{_≡_, refl, sym, ap, _∙_}
+use mathlib.Core.Path.{_≡_, sym, ap, _∙_}
 use mathlib.Core.Bool.{Bool, true, false, cond}
 use mathlib.Core.Logic.{⊎-elim}
 use mathlib.Core.List.{List, [], _∷_, _++_}
 use Prim.Native.Nat.{ℕ, suc, _+_, _-_, _≤_, _<_}
-use native.Mathlib.Nat.{add-zero, zero-add, add-suc, suc-add, sub-zero, min-le-left}
+use native.Mathlib.Nat.{add-zero, add-suc, suc-add}
 use native.Mathlib.Numerals.{add-one}
 use native.Mathlib.Omega.{arith}
-use lib.ListN.{length, set, take, drop, getD, length-set, length-take, drop-of-length-le}
-use lib.Seq.{sets, length-sets, length-take-le, take-nil, take-at, drop-cons}
+use lib.ListN.{length, set, take, drop, getD, length-set, drop-of-length-le}
+use lib.Seq.{length-sets, length-take-le, take-nil, take-at, drop-cons}
 use Rattle.trace.specs.ByteLaws.{below}
 use Rattle.bench.specs.Page.{Page, pageOf, fits, printed}
+use Rattle.bench.specs.PageLaws.{cut-fits, printed-front}
 
 pub print-none : (p : Page) → printed p [] ≡ p
 unfolding printed
@@ -69,15 +70,13 @@ pub print-line : (p q : Page) (text rest line : List ℕ) (n : ℕ) → n ≡ le
     → q ≡ printed p text
 print-line p q text rest line n size is e = e ∙ ap (printed p) (rw is (take-at text rest n (sym size)))
 
-place : (bs text : List ℕ) → printed (pageOf bs 0) text .at ≤ length bs
-unfolding printed
-place bs text = rw (zero-add (length (take (length bs - 0) text)), length-take (length bs - 0) text, sub-zero (length bs)) (min-le-left (length bs) (length text))
-
 -- what is printed from the start of a slice on is no longer than the slice
-pub print-fits : (bs text : List ℕ) (q : Page) → q ≡ printed (pageOf bs 0) text → (q .at ≤ length (q .bytes)) × (q .at ≡ length (take (q .at) (q .bytes)))
-print-fits bs text q e =
-    let fit : q .at ≤ length (q .bytes) = rw e (within bs text) in
-    (fit, sym (length-take-le (q .at) (q .bytes) fit))
+pub print-fits : (bs text : List ℕ) (q : Page) → q ≡ printed (pageOf bs 0) text
+    → (q .at ≤ length (q .bytes)) × (q .at ≡ length (take (q .at) (q .bytes)))
+print-fits bs text q e = (fit, sym (length-take-le (q .at) (q .bytes) fit))
   where
-    within : (bs text : List ℕ) → printed (pageOf bs 0) text .at ≤ length (printed (pageOf bs 0) text .bytes)
-    within bs text = omega (arith, print-length (pageOf bs 0) text, place bs text)
+    within : printed (pageOf bs 0) text .at ≤ length bs
+    within = rw (printed-front bs text) (cut-fits bs text)
+
+    fit : q .at ≤ length (q .bytes)
+    fit = rw (e, print-length (pageOf bs 0) text) within

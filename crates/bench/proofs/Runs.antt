@@ -23,7 +23,7 @@ use Rattle.chip.specs.declared.power.Powered.{Powered}
 use Rattle.report.specs.Items.{itemEvents}
 use Rattle.report.specs.Lines.{partLine}
 use Rattle.report.specs.Record.{mostShown}
-use Rattle.bench.specs.Bench.{Bench, Desk, stopped, deskOf, onPage, benchOf}
+use Rattle.bench.specs.Bench.{Bench, deskOf, onPage, benchOf}
 use Rattle.bench.specs.Head.{headOf}
 use Rattle.bench.specs.Page.{Page, pageOf, printed}
 use Rattle.bench.specs.Report.{lastText, wholeText, report, reported}
@@ -77,7 +77,8 @@ module _ (s : List ℕ) (at : ℕ) (found : Read) (t : Turn) (xs os out : List �
       desk-is t xs os out ∙ rw (on, items-on s at, e)
 
   pub ran-refused : (why : Refusal) (p row : ℕ) → t .refusal ≡ 0 → found ≡ Refused why p → row ≡ numberOf why
-      → deskOf (record { refusal = row; stand = t .stand; at = t .at }) xs os out ≡ onPage (pageOf out (t .at)) (ranFrom s at (benchOf t xs os))
+      → deskOf (record { refusal = row; stand = t .stand; at = t .at }) xs os out
+      ≡ onPage (pageOf out (t .at)) (ranFrom s at (benchOf t xs os))
   unfolding ranFrom
   ran-refused why p row on is number =
       let e : reading s at ≡ refused (numberOf why) p = sym read ∙ ap readTold is in
@@ -129,7 +130,9 @@ unfolding ran
 ran-on s lead xs os out t ys out′ e = carry (ranFrom s (lead .items)) (tells-ran s (lead .items)) t ys os out′ _ _ e
 
 -- the whole run, where a number that leads the trace is refused
-pub replayed-not : (s os out : List ℕ) (lead : Head) (stand : Stand) → lead ≡ headOf s → (lead .refusal ≡ 0 → ⊥) → stand ≡ begun (atRest 1 0 false)
+pub replayed-not :
+    (s os out : List ℕ) (lead : Head) (stand : Stand)
+    → lead ≡ headOf s → (lead .refusal ≡ 0 → ⊥) → stand ≡ begun (atRest 1 0 false)
     → deskOf (record { refusal = lead .refusal; stand = stand; at = 0 }) [] os out ≡ onPage (pageOf out 0) (replayed s os)
 unfolding replayed
 replayed-not s os out lead stand led h rests =

@@ -1,4 +1,5 @@
 pub mod Page
+pub mod PageLaws
 pub mod Head
 pub mod Stand
 pub mod Bench

@@ -48,7 +48,8 @@ fn take_items(
     out: &mut [u8],
 ) -> Turn
     ensures { λ r. ⌜ deskOf r (now (array .exit)) (now (shown .exit)) (now (out .exit))
-        ≡ onPage (pageOf (now (out .entry)) (turn .at)) (ranFrom (now (trace .entry)) at (benchOf turn (now (array .entry)) (now (shown .entry)))) ⌝ }
+        ≡ onPage (pageOf (now (out .entry)) (turn .at))
+        (ranFrom (now (trace .entry)) at (benchOf turn (now (array .entry)) (now (shown .entry)))) ⌝ }
 {
     let mut turn = turn;
     let mut place = at;
