@@ -122,12 +122,14 @@ module _ (lead : Head) (xs os out : List ℕ) (p : Powered) (ys : List ℕ) (s :
       line : partLine (lead .part) (f .size) (p .state .kept) ≡ firstText lead p
       line = rw (row, eq-eqb _ _ on)
 
--- the items from a start on
+-- the items from a start on, which shows nothing
 pub ran-on : (s : List ℕ) (lead : Head) (xs os out : List ℕ) (t : Turn) (ys out′ : List ℕ)
-    → deskOf t ys os out′ ≡ onPage (pageOf out 0) (started lead xs os)
+    → deskOf t ys [] out′ ≡ onPage (pageOf out 0) (started lead xs [])
     → onPage (pageOf out′ (t .at)) (ranFrom s (lead .items) (benchOf t ys os)) ≡ onPage (pageOf out 0) (ran s lead xs os)
-unfolding ran
-ran-on s lead xs os out t ys out′ e = carry (ranFrom s (lead .items)) (tells-ran s (lead .items)) t ys os out′ _ _ e
+unfolding ran started
+ran-on s lead xs os out t ys out′ e =
+    carry (ranFrom s (lead .items)) (tells-ran s (lead .items)) t ys os out′ (pageOf out 0) (started lead xs os)
+    (λ i. record { refusal = e i .refusal; stand = e i .stand; array = e i .array; shown = os; page = e i .page })
 
 -- the whole run, where a number that leads the trace is refused
 pub replayed-not :

@@ -1,4 +1,4 @@
-// The replay: a trace read, its report printed. What the report is says `text`.
+// The replay: a trace is read, and its report, which `text` makes, is written.
 use crate::text::report;
 use libc::STDIN_FILENO;
 use libc::STDOUT_FILENO;

@@ -1,5 +1,6 @@
 // The run of a trace: power-up, then item by item.
 ghost use mathlib.Core.Path.{_≡_};
+ghost use mathlib.Core.List.{[]};
 ghost use Rattle.bench.specs.Bench.{benchOf, deskOf, onPage};
 ghost use Rattle.bench.specs.Page.{pageOf, printed};
 ghost use Rattle.bench.specs.Run.{afterItem, ranFrom, started, ran, replayed};
@@ -71,10 +72,10 @@ fn take_items(
     turn
 }
 
-// Power-up, with a fresh array. Line 1 is printed where it is accepted.
-fn start(lead: Head, array: &mut [u8], shown: &[u8; 64], out: &mut [u8]) -> Turn
-    ensures { λ r. ⌜ deskOf r (now (array .exit)) (now (shown .entry)) (now (out .exit))
-        ≡ onPage (pageOf (now (out .entry)) 0) (started lead (now (array .entry)) (now (shown .entry))) ⌝ }
+// Power-up, with a fresh array. Line 1 is printed where it is accepted; SO showed nothing yet.
+fn start(lead: Head, array: &mut [u8], out: &mut [u8]) -> Turn
+    ensures { λ r. ⌜ deskOf r (now (array .exit)) [] (now (out .exit))
+        ≡ onPage (pageOf (now (out .entry)) 0) (started lead (now (array .entry)) []) ⌝ }
 {
     fill(lead.part, array);
     let powered = power_up(lead.part, lead.kept, array);
@@ -100,7 +101,7 @@ fn run(trace: &[u8], lead: Head, array: &mut [u8], shown: &mut [u8; 64], out: &m
     ensures { λ r. ⌜ deskOf r (now (array .exit)) (now (shown .exit)) (now (out .exit))
         ≡ onPage (pageOf (now (out .entry)) 0) (ran (now (trace .entry)) lead (now (array .entry)) (now (shown .entry))) ⌝ }
 {
-    let turn = start(lead, array, shown, out);
+    let turn = start(lead, array, out);
     take_items(trace, lead.items, turn, array, shown, out)
 }
 
