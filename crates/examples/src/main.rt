@@ -134,15 +134,18 @@ fn numbers(desk: Desk, array: &mut [u8], b: u8) -> Desk {
             ..desk
         };
     }
-    let after = if desk.digits {
-        call(desk, array, desk.number)
-    } else {
-        desk
-    };
+    if desk.digits {
+        return ended(call(desk, array, desk.number), b);
+    }
+    ended(desk, b)
+}
+
+// After a number, at a space or the line's end.
+fn ended(desk: Desk, b: u8) -> Desk {
     if b == b'\n' {
         return Desk {
             place: Place::Start,
-            ..after
+            ..desk
         };
     }
     if b != b' ' {
@@ -151,7 +154,7 @@ fn numbers(desk: Desk, array: &mut [u8], b: u8) -> Desk {
     Desk {
         digits: false,
         number: 0,
-        ..after
+        ..desk
     }
 }
 
@@ -285,7 +288,7 @@ fn send(chip: State, array: &mut [u8], len: usize, code: u64) -> State {
 fn send_seven(start: State, array: &mut [u8], len: usize, byte: u8) -> State {
     let mut chip = start;
     let mut left = byte;
-    let mut k = 0;
+    let mut k: u8 = 0;
     while k < 7 {
         chip = send(chip, array, len, if left < 0x80 { 4 } else { 5 });
         chip = send(chip, array, len, 3);
