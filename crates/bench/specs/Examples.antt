@@ -65,7 +65,7 @@ traces =
           ++ ascii "sel 1 so - op 06 clocks 8 stored 0\n"
           ++ ascii "end kept 8C latch 0 refused 0\n";
     }
-    -- "also one left open by the end", after one that closed: RDSR with four clocks of its byte
+    -- "also one left open by the end", after one that closed: RDSR and one clock of its byte
     ∷ record {
       trace = 0x02 ∷ 0x00 ∷ 0x00 ∷ 0x01 ∷ 0x00 ∷ 0x11 ∷ 0x03 ∷ 0x02 ∷ [];
       prints =
