@@ -1,3 +1,5 @@
+pub mod Pages
+pub mod Desks
 pub mod Events
 pub mod Items
 pub mod Reading

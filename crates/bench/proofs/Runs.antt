@@ -17,24 +17,39 @@ use Rattle.trace.specs.declared.answer.Refusal.the-variants.{Malformed, TooLarg
 use Rattle.parts.specs.Figures.{figureOf}
 use Rattle.parts.specs.FigureLaws.{most, largest}
 use Rattle.parts.specs.declared.figures.Figure.{Figure}
-use Rattle.chip.specs.Power.{filled}
+use Rattle.lines.specs.Lines.{atRest}
+use Rattle.chip.specs.Power.{powerUp, filled}
+use Rattle.chip.specs.declared.power.Powered.{Powered}
 use Rattle.report.specs.Items.{itemEvents}
+use Rattle.report.specs.Lines.{partLine}
+use Rattle.report.specs.Record.{mostShown}
+use Rattle.bench.specs.Bench.{Bench, deskOf, onPage, benchOf}
 use Rattle.bench.specs.Head.{headOf}
-use Rattle.bench.specs.Run.{Bench, benchOf, going, itemsFrom, afterItem, afterItems, ranFrom, started, ran, replayed}
+use Rattle.bench.specs.Page.{Page, pageOf, printed}
+use Rattle.bench.specs.Report.{lastText, wholeText, report, reported}
+use Rattle.bench.specs.Run.{itemsFrom, afterItem, afterItems, ranFrom, firstText, powered, started, ran, replayed}
+use Rattle.bench.specs.Stand.{begun}
 use Rattle.bench.specs.declared.head.Head.{Head}
-use Rattle.bench.specs.declared.replay.Turn.{Turn}
-use Rattle.bench.proofs.Events.{as-going, events-stay}
+use Rattle.bench.specs.declared.stand.Stand.{Stand}
+use Rattle.bench.specs.declared.turn.Turn.{Turn}
+use Rattle.bench.proofs.Desks.{desk-is, carry, tells-ran}
+use Rattle.bench.proofs.Events.{events-stay}
 use Rattle.bench.proofs.Items.{items-on}
+use Rattle.bench.proofs.Pages.{print-then}
 
-items-stay : (b : Bench) (ns : List ℕ) → (b .turn .refusal ≡ 0 → ⊥) → afterItems b ns ≡ b
+items-stay : (b : Bench) (ns : List ℕ) → (b .refusal ≡ 0 → ⊥) → afterItems b ns ≡ b
 unfolding afterItem
 items-stay b [] h = refl
 items-stay b (n ∷ ns) h = rw (events-stay b (itemEvents n) h) (items-stay b ns h)
 
--- what a refusal stopped stays as it is
-pub ran-stays : (s : List ℕ) (at : ℕ) (b : Bench) → (b .turn .refusal ≡ 0 → ⊥) → ranFrom s at b ≡ b
+stays : (s : List ℕ) (at : ℕ) (b : Bench) → (b .refusal ≡ 0 → ⊥) → ranFrom s at b ≡ b
 unfolding ranFrom
-ran-stays s at b h = rw (items-stay b (itemsFrom s at .numbers) h, ne-eqb _ _ h)
+stays s at b h = rw (items-stay b (itemsFrom s at .numbers) h, ne-eqb _ _ h)
+
+-- what a refusal stopped stays as it is
+pub ran-stays : (s : List ℕ) (at : ℕ) (t : Turn) (xs os out : List ℕ) → (t .refusal ≡ 0 → ⊥)
+    → deskOf t xs os out ≡ onPage (pageOf out (t .at)) (ranFrom s at (benchOf t xs os))
+ran-stays s at t xs os out h = desk-is t xs os out ∙ ap (onPage (pageOf out (t .at))) (sym (stays s at (benchOf t xs os) h))
 
 no-row-is-0 : (why : Refusal) → eqb (numberOf why) 0 ≡ false
 no-row-is-0 Malformed = refl
@@ -42,40 +57,32 @@ no-row-is-0 TooLarge = refl
 no-row-is-0 Beyond = refl
 no-row-is-0 NoRoom = refl
 
-module _ (s : List ℕ) (at : ℕ) (found : Read) (t : Turn) (xs os : List ℕ)
-    (read : readTold found ≡ reading s at) (on : t .refusal ≡ 0) where
-  pub ran-number : (n next : ℕ) (r : Turn) (ys ps : List ℕ) → found ≡ Number n next → benchOf r ys ps ≡ afterItem (going (t .stand) xs os) n
-      → ranFrom s next (benchOf r ys ps) ≡ ranFrom s at (benchOf t xs os)
+module _ (s : List ℕ) (at : ℕ) (found : Read) (t : Turn) (xs os out : List ℕ) (read : readTold found ≡ reading s at) where
+  first : (n next : ℕ) → found ≡ Number n next → ranFrom s next (afterItem (benchOf t xs os) n) ≡ ranFrom s at (benchOf t xs os)
   unfolding ranFrom
-  ran-number n next r ys ps is one =
+  first n next is =
       let e : reading s at ≡ accepted n next = sym read ∙ ap readTold is in
-      rw (as-going t xs os on, one, items-on s at, e)
+      rw (items-on s at, e)
 
-  pub ran-end : (p : ℕ) → found ≡ End p → benchOf t xs os ≡ ranFrom s at (benchOf t xs os)
+  pub ran-number : (n next : ℕ) (r : Turn) (ys ps out′ : List ℕ) → found ≡ Number n next
+      → deskOf r ys ps out′ ≡ onPage (pageOf out (t .at)) (afterItem (benchOf t xs os) n)
+      → onPage (pageOf out′ (r .at)) (ranFrom s next (benchOf r ys ps)) ≡ onPage (pageOf out (t .at)) (ranFrom s at (benchOf t xs os))
+  ran-number n next r ys ps out′ is one =
+      carry (ranFrom s next) (tells-ran s next) r ys ps out′ _ _ one ∙ ap (onPage (pageOf out (t .at))) (first n next is)
+
+  pub ran-end : (p : ℕ) → t .refusal ≡ 0 → found ≡ End p → deskOf t xs os out ≡ onPage (pageOf out (t .at)) (ranFrom s at (benchOf t xs os))
   unfolding ranFrom
-  ran-end p is =
+  ran-end p on is =
       let e : reading s at ≡ ended p = sym read ∙ ap readTold is in
-      rw (as-going t xs os on, items-on s at, e)
+      desk-is t xs os out ∙ rw (on, items-on s at, e)
 
-  pub ran-refused : (why : Refusal) (p row : ℕ) → found ≡ Refused why p → row ≡ numberOf why
-      → benchOf (record { refusal = row; stand = t .stand }) xs os ≡ ranFrom s at (benchOf t xs os)
+  pub ran-refused : (why : Refusal) (p row : ℕ) → t .refusal ≡ 0 → found ≡ Refused why p → row ≡ numberOf why
+      → deskOf (record { refusal = row; stand = t .stand; at = t .at }) xs os out
+      ≡ onPage (pageOf out (t .at)) (ranFrom s at (benchOf t xs os))
   unfolding ranFrom
-  ran-refused why p row is number =
+  ran-refused why p row on is number =
       let e : reading s at ≡ refused (numberOf why) p = sym read ∙ ap readTold is in
-      rw (number, as-going t xs os on, items-on s at, e, no-row-is-0 why)
-
--- from the start on
-module _ (s : List ℕ) (lead : Head) (xs os : List ℕ) (t : Turn) (ys : List ℕ)
-    (first : t ≡ started lead xs) (fresh : ys ≡ filled (lead .part) xs) where
-  whole : ranFrom s (lead .items) (benchOf t ys os) ≡ ran s lead xs os
-  unfolding ran
-  whole = rw (first, fresh)
-
-  pub ran-not : (t .refusal ≡ 0 → ⊥) → benchOf t ys os ≡ ran s lead xs os
-  ran-not h = sym (ran-stays s (lead .items) (benchOf t ys os) h) ∙ whole
-
-  pub ran-on : t .refusal ≡ 0 → ranFrom s (lead .items) (going (t .stand) ys os) ≡ ran s lead xs os
-  ran-on h = ap (ranFrom s (lead .items)) (sym (as-going t ys os h)) ∙ whole
+      desk-is (record { refusal = row; stand = t .stand; at = t .at }) xs os out ∙ rw (on, number, items-on s at, e, no-row-is-0 why)
 
 take-replicate : (n m a : ℕ) → n ≤ m → take n (replicate m a) ≡ replicate n a
 take-replicate zero m a h = refl
@@ -84,9 +91,66 @@ take-replicate (suc n) (suc m) a h = ap (λ (l : List ℕ). a ∷ l) (take-repli
 
 -- the whole run, where both numbers that lead the trace are read
 pub replayed-led :
-    (s os : List ℕ) (lead : Head) (f : Figure) (b : Bench)
+    (s os : List ℕ) (lead : Head) (f : Figure)
     → lead ≡ headOf s → lead .refusal ≡ 0 → f ≡ figureOf (lead .part)
-    → b ≡ ran s lead (take (f .size) (replicate most 0)) os → b ≡ replayed s os
+    → ran s lead (take (f .size) (replicate most 0)) os ≡ replayed s os
 unfolding replayed
-replayed-led s os lead f b led none row is =
-    rw (is, row, take-replicate (figureOf (lead .part) .size) most 0 (largest (lead .part)), ← led, eq-eqb _ _ none)
+replayed-led s os lead f led none row =
+    rw (row, take-replicate (figureOf (lead .part) .size) most 0 (largest (lead .part)), ← led, eq-eqb _ _ none)
+
+-- the start, by what fill, power-up and the printing of line 1 leave
+module _ (lead : Head) (xs os out : List ℕ) (p : Powered) (ys : List ℕ) (s : Stand)
+    (fresh : ys ≡ filled (lead .part) xs) (power : p ≡ powerUp (lead .part) (lead .kept) ys) (first-of : s ≡ begun (p .state)) where
+  begins : powered lead p ys os ≡ started lead xs os
+  unfolding started
+  begins = rw (power, fresh)
+
+  pub start-refused : (p .refusal ≡ 0 → ⊥)
+      → deskOf (record { refusal = p .refusal; stand = s; at = 0 }) ys os out ≡ onPage (pageOf out 0) (started lead xs os)
+  start-refused h = desk-is (record { refusal = p .refusal; stand = s; at = 0 }) ys os out ∙ ap (onPage (pageOf out 0)) (silent ∙ begins)
+    where
+      silent : benchOf (record { refusal = p .refusal; stand = s; at = 0 }) ys os ≡ powered lead p ys os
+      silent = rw (first-of, ne-eqb _ _ h)
+
+  pub start-accepted : (f : Figure) (r : ℕ) (out′ : List ℕ) → p .refusal ≡ 0 → f ≡ figureOf (lead .part)
+      → pageOf out′ r ≡ printed (pageOf out 0) (partLine (lead .part) (f .size) (p .state .kept))
+      → deskOf (record { refusal = 0; stand = s; at = r }) ys os out′ ≡ onPage (pageOf out 0) (started lead xs os)
+  start-accepted f r out′ on row e =
+      (λ i. record { refusal = sym on i; stand = first-of i; array = ys; shown = os; page = (e ∙ ap (printed (pageOf out 0)) line) i })
+      ∙ ap (onPage (pageOf out 0)) begins
+    where
+      line : partLine (lead .part) (f .size) (p .state .kept) ≡ firstText lead p
+      line = rw (row, eq-eqb _ _ on)
+
+-- the items from a start on, which shows nothing
+pub ran-on : (s : List ℕ) (lead : Head) (xs os out : List ℕ) (t : Turn) (ys out′ : List ℕ)
+    → deskOf t ys [] out′ ≡ onPage (pageOf out 0) (started lead xs [])
+    → onPage (pageOf out′ (t .at)) (ranFrom s (lead .items) (benchOf t ys os)) ≡ onPage (pageOf out 0) (ran s lead xs os)
+unfolding ran started
+ran-on s lead xs os out t ys out′ e =
+    carry (ranFrom s (lead .items)) (tells-ran s (lead .items)) t ys os out′ (pageOf out 0) (started lead xs os)
+    (λ i. record { refusal = e i .refusal; stand = e i .stand; array = e i .array; shown = os; page = e i .page })
+
+-- the whole run, where a number that leads the trace is refused
+pub replayed-not :
+    (s os out : List ℕ) (lead : Head) (stand : Stand)
+    → lead ≡ headOf s → (lead .refusal ≡ 0 → ⊥) → stand ≡ begun (atRest 1 0 false)
+    → deskOf (record { refusal = lead .refusal; stand = stand; at = 0 }) [] os out ≡ onPage (pageOf out 0) (replayed s os)
+unfolding replayed
+replayed-not s os out lead stand led h rests =
+    desk-is (record { refusal = lead .refusal; stand = stand; at = 0 }) [] os out ∙ rw (rests, ← led, ne-eqb _ _ h)
+
+-- what is left of the whole run: all but the array
+pub whole : (b : Bench) (p : Page) (t : Turn) (xs os out : List ℕ) → deskOf t xs os out ≡ onPage p b
+    → (t .refusal ≡ b .refusal) × ((t .stand ≡ b .stand) × ((os ≡ b .shown) × (pageOf out (t .at) ≡ printed p (b .text))))
+whole b p t xs os out e = (λ i. e i .refusal, (λ i. e i .stand, (λ i. e i .shown, λ i. e i .page)))
+
+-- its text, then what is left to tell at its end
+pub report-whole : (s out : List ℕ) (t : Turn) (os out′ : List ℕ) (b : Bench) (q : Page) → b ≡ replayed s (replicate mostShown 0)
+    → t .refusal ≡ b .refusal → t .stand ≡ b .stand → os ≡ b .shown → pageOf out′ (t .at) ≡ printed (pageOf out 0) (b .text)
+    → q ≡ printed (pageOf out′ (t .at)) (lastText (t .stand) (t .refusal) os) → q ≡ reported s out
+unfolding report
+report-whole s out t os out′ b q is refusal stand shown text last =
+    print-then (pageOf out 0) (pageOf out′ (t .at)) q (b .text) (lastText (b .stand) (b .refusal) (b .shown)) text
+    (last ∙ λ i. printed (pageOf out′ (t .at)) (lastText (stand i) (refusal i) (shown i)))
+    ∙ ap (λ (x : Bench). printed (pageOf out 0) (wholeText x)) is

@@ -1,27 +1,308 @@
-// Document 01's examples 13 and 14 and the chip's part of 15, by direct calls of the chip. Each line of the file
-// `stdout` was worked out by hand.
+// Calls of the chip, one by one, as the file `stdin` says, and what each answers: document 01's examples 13 and 15, and
+// what a trace cannot show, as notes, reasons, refusals 2, 4 and 5 and what stands after a refusal. Each line of the file
+// `stdout` was worked out by hand; the comment above the calls says why.
+//
+// A line of the input is a comment, `# ..`; a title, `= ..`, which is printed; or a letter and hex numbers, for each of
+// which the letter is done in turn:
+//   k, l, a   the kept bits of a power-up, the length of the array that is lent, the lender's address, from here on
+//   u, f      power-up of this part; the fill of the array for this part
+//   v, b      this event, this data byte as 24 events; nothing is printed
+//   e, d      this event; this data byte, of which the eighth rise is printed
+//   w, r      the lender writes this byte at its address; the byte at this address
+//   P, K, T   the state with this part, with these kept bits, with this field turned: 1 SCK, 2 SI, 4 /WP, 5 VDD, 6 the latch
+//   S         the state in an op-code of which this many bits came (times 256), with this value
 use chip::event::Answer;
 use chip::event::event;
+use chip::power::Powered;
 use chip::power::fill;
 use chip::power::power_up;
+use libc::STDIN_FILENO;
 use libc::STDOUT_FILENO;
+use lines::hold::Hold;
 use lines::state::State;
-use lines::watch::is_open;
+use parts::guards::Reason;
 use select::notes::Level;
 use select::notes::Note;
+use stages::stage::Shift;
+use stages::stage::Source;
+use stages::stage::Stage;
 
-fn main() {
-    example_13(&mut [0u8; 512]);
-    example_14(&mut [0u8; 512]);
-    example_15(&mut [0u8; 512]);
-    power_ups();
-    fills();
+// Where the next byte of the input stands: at a line's start, in a comment, in a title, or in a letter's numbers.
+enum Place {
+    Start,
+    Comment,
+    Title,
+    Numbers,
 }
 
-// The chip, and the bits of SO that were sampled.
-struct Sampled {
+struct Desk {
+    place: Place,
+    letter: u8,
+    digits: bool,
+    number: u64,
+    kept: u64,
+    len: usize,
+    at: usize,
     chip: State,
-    so: u8,
+}
+
+fn main() {
+    let mut text = [0u8; 16384];
+    let mut array = [0u8; 2560];
+    let n = io::read_full(STDIN_FILENO, &mut text);
+    calls(&text[..n], &mut array);
+}
+
+fn calls(text: &[u8], array: &mut [u8]) {
+    let mut desk = Desk {
+        place: Place::Start,
+        letter: 0,
+        digits: false,
+        number: 0,
+        kept: 0,
+        len: 512,
+        at: 0,
+        chip: State::at_rest(1, 0, false),
+    };
+    let mut i = 0;
+    while i < text.len() {
+        desk = take(desk, array, text[i]);
+        i += 1;
+    }
+}
+
+// After one more byte of the input.
+fn take(desk: Desk, array: &mut [u8], b: u8) -> Desk {
+    let place = desk.place;
+    match place {
+        Place::Start => first(desk, b),
+        Place::Comment => {
+            if b == b'\n' {
+                return Desk {
+                    place: Place::Start,
+                    ..desk
+                };
+            }
+            desk
+        }
+        Place::Title => {
+            say(&[b]);
+            if b == b'\n' {
+                return Desk {
+                    place: Place::Start,
+                    ..desk
+                };
+            }
+            desk
+        }
+        Place::Numbers => numbers(desk, array, b),
+    }
+}
+
+// A line's first byte.
+fn first(desk: Desk, b: u8) -> Desk {
+    match b {
+        b'\n' => desk,
+        b'#' => Desk {
+            place: Place::Comment,
+            ..desk
+        },
+        b'=' => {
+            say(b"==");
+            Desk {
+                place: Place::Title,
+                ..desk
+            }
+        }
+        _ => Desk {
+            place: Place::Numbers,
+            letter: b,
+            digits: false,
+            number: 0,
+            ..desk
+        },
+    }
+}
+
+// A digit of a number, or what ends it.
+fn numbers(desk: Desk, array: &mut [u8], b: u8) -> Desk {
+    let digit = digit(b);
+    if digit < 16 {
+        return Desk {
+            digits: true,
+            number: (desk.number << 4) | digit,
+            ..desk
+        };
+    }
+    if desk.digits {
+        return ended(call(desk, array, desk.number), b);
+    }
+    ended(desk, b)
+}
+
+// After a number, at a space or the line's end.
+fn ended(desk: Desk, b: u8) -> Desk {
+    if b == b'\n' {
+        return Desk {
+            place: Place::Start,
+            ..desk
+        };
+    }
+    if b != b' ' {
+        say(b"? no number\n");
+    }
+    Desk {
+        digits: false,
+        number: 0,
+        ..desk
+    }
+}
+
+// The value of a hex digit, and 16 of any other byte.
+fn digit(b: u8) -> u64 {
+    match b {
+        b'0'..=b'9' => (b - b'0') as u64,
+        b'A'..=b'F' => (b - b'A' + 10) as u64,
+        _ => 16,
+    }
+}
+
+// A letter's call with one number.
+fn call(desk: Desk, array: &mut [u8], n: u64) -> Desk {
+    let chip = desk.chip;
+    let letter = desk.letter;
+    match letter {
+        b'k' => Desk { kept: n, ..desk },
+        b'l' => Desk {
+            len: n as usize,
+            ..desk
+        },
+        b'a' => Desk {
+            at: n as usize,
+            ..desk
+        },
+        b'w' => {
+            lend(array, desk.at, (n % 256) as u8);
+            desk
+        }
+        b'r' => {
+            tell_byte(array, n as usize);
+            desk
+        }
+        b'f' => {
+            tell_fill(array, desk.len, n);
+            desk
+        }
+        b'u' => Desk {
+            chip: tell_power_up(array, desk.len, n, desk.kept),
+            ..desk
+        },
+        _ => Desk {
+            chip: move_chip(letter, chip, array, desk.len, n),
+            ..desk
+        },
+    }
+}
+
+// A letter that moves the chip, or puts it into another state.
+fn move_chip(letter: u8, chip: State, array: &mut [u8], len: usize, n: u64) -> State {
+    match letter {
+        b'v' => send(chip, array, len, n),
+        b'e' => tell_event(chip, array, len, n),
+        b'b' => {
+            let seven = send_seven(chip, array, len, (n % 256) as u8);
+            let eight = send(seven, array, len, 3);
+            send(eight, array, len, 2)
+        }
+        b'd' => {
+            let seven = send_seven(chip, array, len, (n % 256) as u8);
+            let eight = tell_event(seven, array, len, 3);
+            send(eight, array, len, 2)
+        }
+        b'P' => State {
+            part: (n % 256) as u8,
+            ..chip
+        },
+        b'K' => State {
+            kept: (n % 256) as u8,
+            ..chip
+        },
+        b'T' => turned(chip, n),
+        b'S' => State {
+            stage: op_code(n),
+            ..chip
+        },
+        _ => {
+            say(b"? no letter\n");
+            chip
+        }
+    }
+}
+
+fn turned(chip: State, field: u64) -> State {
+    match field {
+        1 => State {
+            sck: !chip.sck,
+            ..chip
+        },
+        2 => State {
+            si: !chip.si,
+            ..chip
+        },
+        4 => State {
+            wp: !chip.wp,
+            ..chip
+        },
+        5 => State {
+            power: !chip.power,
+            ..chip
+        },
+        _ => State {
+            latch: !chip.latch,
+            ..chip
+        },
+    }
+}
+
+fn op_code(n: u64) -> Stage {
+    Stage::Code(Shift {
+        bits: (n / 256 % 256) as u8,
+        byte: (n % 256) as u8,
+    })
+}
+
+// The event on the first `len` bytes of the array.
+fn ask(chip: State, array: &mut [u8], len: usize, code: u64) -> Answer {
+    if len <= array.len() {
+        return event(chip, &mut array[..len], code);
+    }
+    event(chip, array, code)
+}
+
+fn send(chip: State, array: &mut [u8], len: usize, code: u64) -> State {
+    let answer = ask(chip, array, len, code);
+    answer.state
+}
+
+// Seven bits of a byte, and the level of the eighth.
+fn send_seven(start: State, array: &mut [u8], len: usize, byte: u8) -> State {
+    let mut chip = start;
+    let mut left = byte;
+    let mut k: u8 = 0;
+    while k < 7 {
+        chip = send(chip, array, len, if left < 0x80 { 4 } else { 5 });
+        chip = send(chip, array, len, 3);
+        chip = send(chip, array, len, 2);
+        left = left << 1;
+        k += 1;
+    }
+    send(chip, array, len, if left < 0x80 { 4 } else { 5 })
+}
+
+fn lend(array: &mut [u8], at: usize, byte: u8) {
+    if at < array.len() {
+        array[at] = byte;
+    }
 }
 
 fn say(text: &[u8]) {
@@ -33,136 +314,6 @@ fn say_number(text: &[u8], n: u64) {
     io::print_decimal(STDOUT_FILENO, n);
 }
 
-// The chip after one event.
-fn send(chip: State, array: &mut [u8], code: u64) -> State {
-    let answer = event(chip, array, code);
-    answer.state
-}
-
-// The chip after the first bits of a byte, the most significant first.
-fn send_bits(start: State, array: &mut [u8], byte: u8, bits: u8) -> State {
-    let mut chip = start;
-    let mut left = byte;
-    let mut k = 0;
-    while k < bits {
-        chip = send(chip, array, if left < 0x80 { 4 } else { 5 });
-        chip = send(chip, array, 3);
-        chip = send(chip, array, 2);
-        left = left << 1;
-        k += 1;
-    }
-    chip
-}
-
-// SO's bits with one more, where it is driven.
-fn sample(so: u8, level: Level) -> u8 {
-    match level {
-        Level::Low => so << 1,
-        Level::High => (so << 1) | 1,
-        Level::Released => so,
-    }
-}
-
-// Pulses of SCK, with SO sampled before each rise.
-fn pulse(start: Sampled, array: &mut [u8], pulses: u8) -> Sampled {
-    let mut chip = start.chip;
-    let mut so = start.so;
-    let mut k = 0;
-    while k < pulses {
-        so = sample(so, chip.so());
-        chip = send(chip, array, 3);
-        chip = send(chip, array, 2);
-        k += 1;
-    }
-    Sampled { chip, so }
-}
-
-// Part 1 with the latch set.
-fn enabled(array: &mut [u8]) -> State {
-    fill(1, array);
-    let powered = power_up(1, 0, array);
-    let open = send(powered.state, array, 0);
-    let sent = send_bits(open, array, 0x06, 8);
-    send(sent, array, 1)
-}
-
-// Part 1 in a WRITE of this address, whose data is still to come.
-fn writing(array: &mut [u8], address: u8) -> State {
-    let ready = enabled(array);
-    let open = send(ready, array, 0);
-    let code = send_bits(open, array, 0x02, 8);
-    send_bits(code, array, address, 8)
-}
-
-fn byte_at(array: &[u8], at: usize) -> u64 {
-    if at < array.len() { wide(array[at]) } else { 0 }
-}
-
-fn wide(byte: u8) -> u64 {
-    byte as u64
-}
-
-// Part 1 right before the eighth rise of A5 at 030h.
-fn before_eighth(array: &mut [u8]) -> State {
-    let start = writing(array, 0x30);
-    let seven = send_bits(start, array, 0xA5, 7);
-    send(seven, array, 5)
-}
-
-// "Event 10 right after a data byte's eighth rise: that byte is stored." A5 at 030h is 165 at 48.
-fn example_13(array: &mut [u8]) {
-    let chip = before_eighth(array);
-    let stored = event(chip, array, 3);
-    tell(b"13 eighth rise", chip, stored);
-    let risen = stored.state;
-    let cut = event(risen, array, 10);
-    tell(b"13 event 10", risen, cut);
-    say_number(b"13 byte ", byte_at(array, 48));
-    say(b"\n");
-}
-
-// Part 1 with A5 at 000h.
-fn written(array: &mut [u8]) -> State {
-    let start = writing(array, 0x00);
-    let whole = send_bits(start, array, 0xA5, 8);
-    send(whole, array, 1)
-}
-
-// In a READ of 000h, whose data is still to come.
-fn reading(array: &mut [u8]) -> State {
-    let chip = written(array);
-    let open = send(chip, array, 0);
-    let code = send_bits(open, array, 0x03, 8);
-    send_bits(code, array, 0x00, 8)
-}
-
-// Held for three pulses.
-fn hold(start: Sampled, array: &mut [u8]) -> Sampled {
-    let so = start.so;
-    let chip = send(start.chip, array, 6);
-    let three = pulse(Sampled { chip, so }, array, 3);
-    let so = three.so;
-    let chip = send(three.chip, array, 7);
-    Sampled { chip, so }
-}
-
-// "READ held after four data clocks, three pulses of SCK, released: the byte is whole." A5 is 165.
-fn example_14(array: &mut [u8]) {
-    let chip = reading(array);
-    let four = pulse(Sampled { chip, so: 0 }, array, 4);
-    let freed = hold(four, array);
-    let whole = pulse(freed, array, 4);
-    say_number(b"14 so ", wide(whole.so));
-    say(b"\n");
-}
-
-// Whether two states are the same, as far as the lines, the latch and the select show.
-fn same(a: State, b: State) -> bool {
-    let fields = (a.part == b.part) & (a.kept == b.kept) & (a.power == b.power);
-    let lines = (a.sck == b.sck) & (a.si == b.si) & (a.wp == b.wp) & (a.cs() == b.cs());
-    fields & lines & (a.latch == b.latch) & (is_open(a) == is_open(b))
-}
-
 fn say_level(level: Level) {
     match level {
         Level::Low => say(b", SO 0"),
@@ -171,103 +322,173 @@ fn say_level(level: Level) {
     }
 }
 
+fn number_of(reason: Reason) -> u64 {
+    match reason {
+        Reason::LatchOff => 1,
+        Reason::Protect => 2,
+        Reason::Block => 3,
+    }
+}
+
 fn say_note(note: Note) {
     match note {
         Note::Nothing => say(b", nothing"),
-        Note::Latch(_) => say(b", latch"),
+        Note::Latch(on) => say_number(b", latch ", on as u64),
         Note::Stored(at, byte) => {
             say_number(b", stored ", at as u64);
             say_number(b" ", byte as u64);
         }
-        Note::HeldBack(_, _) => say(b", held back"),
-        Note::KeptSet(_) => say(b", kept bits set"),
-        Note::KeptHeldBack(_) => say(b", kept bits held back"),
+        Note::HeldBack(at, reason) => {
+            say_number(b", held back ", at as u64);
+            say_number(b" ", number_of(reason));
+        }
+        Note::KeptSet(kept) => say_number(b", kept bits set ", kept as u64),
+        Note::KeptHeldBack(reason) => say_number(b", kept bits held back ", number_of(reason)),
         Note::PowerLost => say(b", power lost"),
     }
 }
 
-// A line for an answer to an event on the state `given`.
-fn tell(title: &[u8], given: State, answer: Answer) {
+// A stage in numbers, so that two can be compared.
+struct Stamp {
+    kind: u8,
+    bits: u8,
+    byte: u8,
+    flag: bool,
+    at: usize,
+}
+
+fn stamped(kind: u8, shift: Shift, flag: bool, at: usize) -> Stamp {
+    Stamp {
+        kind,
+        bits: shift.bits,
+        byte: shift.byte,
+        flag,
+        at,
+    }
+}
+
+fn place_of(source: Source) -> usize {
+    match source {
+        Source::Array(at) => at,
+        Source::Status => 0xFFFF_FFFF,
+    }
+}
+
+fn stamp_of(stage: Stage) -> Stamp {
+    let none = Shift { bits: 0, byte: 0 };
+    match stage {
+        Stage::Closed => stamped(0, none, false, 0),
+        Stage::Code(shift) => stamped(1, shift, false, 0),
+        Stage::Upper(upper) => stamped(2, upper.shift, upper.write, 0),
+        Stage::Lower(lower) => stamped(3, lower.shift, lower.write, lower.page as usize),
+        Stage::Ready(source) => stamped(4, none, false, place_of(source)),
+        Stage::Showing(shown) => {
+            let source = shown.source;
+            let bit = Shift {
+                bits: shown.bit,
+                byte: 0,
+            };
+            stamped(5, bit, shown.level, place_of(source))
+        }
+        Stage::Writing(writer) => stamped(6, writer.shift, writer.whole, writer.at),
+        Stage::Keeping(shift) => stamped(7, shift, false, 0),
+        Stage::Over(whole) => stamped(8, none, whole, 0),
+    }
+}
+
+fn same_stage(a: Stage, b: Stage) -> bool {
+    let x = stamp_of(a);
+    let y = stamp_of(b);
+    (x.kind == y.kind)
+        & (x.bits == y.bits)
+        & (x.byte == y.byte)
+        & (x.flag == y.flag)
+        & (x.at == y.at)
+}
+
+fn hold_number(hold: Hold) -> u8 {
+    match hold {
+        Hold::High => 0,
+        Hold::LowCsLow => 1,
+        Hold::LowCsHigh => 2,
+    }
+}
+
+// Whether two states are the same, field by field.
+fn same(a: State, b: State) -> bool {
+    let fields = (a.part == b.part)
+        & (a.kept == b.kept)
+        & (a.power == b.power)
+        & (a.latch == b.latch);
+    let lines = (a.sck == b.sck) & (a.si == b.si) & (a.wp == b.wp);
+    let hold_a = a.hold;
+    let hold_b = b.hold;
+    let stage_a = a.stage;
+    let stage_b = b.stage;
+    fields & lines & (hold_number(hold_a) == hold_number(hold_b)) & same_stage(stage_a, stage_b)
+}
+
+// A line for an event, and the state after it.
+fn tell_event(chip: State, array: &mut [u8], len: usize, code: u64) -> State {
+    let answer = ask(chip, array, len, code);
     let so = answer.so;
     let note = answer.note;
     let state = answer.state;
-    say(title);
-    say_number(b": refused ", wide(answer.refusal));
+    say_number(b"event ", code);
+    say_number(b": refused ", answer.refusal as u64);
     say_level(so);
     say_note(note);
-    if same(given, state) {
+    if same(chip, state) {
         say(b", state as given\n");
     } else {
         say(b", state moved\n");
     }
+    state
 }
 
-// "Array of 511 or 513: 2. Event 11 and 12: accepted, 5." With power on the chip drives SO with the 0 of a status byte:
-// a refusal reads released and leaves it so. With power off the refusals are the same, and event 11 powers up.
-fn example_15(array: &mut [u8]) {
-    let ready = enabled(array);
-    let open = send(ready, array, 0);
-    let showing = send_bits(open, array, 0x05, 8);
-    say(b"15 power on\n");
-    events(showing);
-    let off = send(showing, array, 10);
-    say(b"15 power off\n");
-    events(off);
+fn power(array: &[u8], len: usize, part: u64, kept: u64) -> Powered {
+    if len <= array.len() {
+        return power_up(part, kept, &array[..len]);
+    }
+    power_up(part, kept, array)
 }
 
-// An unsound state is 4, before all others; a wrong length is 2, before 5.
-fn events(chip: State) {
-    try_event(b"array of 511", chip, &mut [0u8; 511], 0);
-    try_event(b"array of 513", chip, &mut [0u8; 513], 0);
-    try_event(b"event 11", chip, &mut [0u8; 512], 11);
-    try_event(b"event 12", chip, &mut [0u8; 512], 12);
-    try_event(b"array of 511, event 12", chip, &mut [0u8; 511], 12);
-    let kept = State { kept: 0x01, ..chip };
-    try_event(b"kept 01", kept, &mut [0u8; 511], 12);
-    let part = State { part: 9, ..chip };
-    try_event(b"part 9", part, &mut [0u8; 511], 12);
-}
-
-fn try_event(title: &[u8], chip: State, array: &mut [u8], code: u64) {
-    let answer = event(chip, array, code);
-    tell(title, chip, answer);
-}
-
-// "Power-up checks 1, 2, 3." "A refused power-up returns part 1 in the off state with kept bits 0."
-fn power_ups() {
-    try_power_up(b"part 4, kept 1, array of 511", 4, 1, &[0u8; 511]);
-    try_power_up(b"part 3, kept 1, array of 512", 3, 1, &[0u8; 512]);
-    try_power_up(b"part 1, kept 1", 1, 1, &[0u8; 512]);
-    try_power_up(b"part 1, kept 256", 1, 256, &[0u8; 512]);
-    try_power_up(b"part 3, kept 8C", 3, 0x8C, &[0u8; 2048]);
-}
-
-fn try_power_up(title: &[u8], part: u64, kept: u64, array: &[u8]) {
-    let powered = power_up(part, kept, array);
+// A line for a power-up, and the state after it.
+fn tell_power_up(array: &[u8], len: usize, part: u64, kept: u64) -> State {
+    let powered = power(array, len, part, kept);
     let chip = powered.state;
-    say(title);
-    say_number(b": refused ", wide(powered.refusal));
-    say_number(b", part ", wide(chip.part));
-    say_number(b" kept ", wide(chip.kept));
+    say_number(b"power-up: refused ", powered.refusal as u64);
+    say_number(b", part ", chip.part as u64);
+    say_number(b" kept ", chip.kept as u64);
     if chip.power {
         say(b" on\n");
     } else {
         say(b" off\n");
     }
+    chip
 }
 
-// "Filling a fresh array with 00 checks 1, 2." "Lent memory stays at every refusal."
-fn fills() {
-    try_fill(b"fill part 4, array of 511", 4, &mut [7u8; 511]);
-    try_fill(b"fill part 1, array of 511", 1, &mut [7u8; 511]);
-    try_fill(b"fill part 1", 1, &mut [7u8; 512]);
+fn fill_lent(array: &mut [u8], len: usize, part: u64) -> u8 {
+    if len <= array.len() {
+        return fill(part, &mut array[..len]);
+    }
+    fill(part, array)
 }
 
-fn try_fill(title: &[u8], part: u64, array: &mut [u8]) {
-    let refusal = fill(part, array);
-    say(title);
-    say_number(b": refused ", wide(refusal));
-    say_number(b", bytes ", byte_at(array, 0));
-    say_number(b" to ", byte_at(array, 510));
+fn tell_fill(array: &mut [u8], len: usize, part: u64) {
+    let refusal = fill_lent(array, len, part);
+    say_number(b"fill: refused ", wide(refusal));
+    say(b"\n");
+}
+
+fn wide(byte: u8) -> u64 {
+    byte as u64
+}
+
+fn tell_byte(array: &[u8], at: usize) {
+    if at < array.len() {
+        say_number(b"byte ", at as u64);
+        say_number(b" is ", wide(array[at]));
+    }
     say(b"\n");
 }

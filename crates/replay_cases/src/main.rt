@@ -1,10 +1,9 @@
 // The replay program's run over many traces, which stand in the file `stdin`. Each report in the file `stdout` was
 // worked out by hand from document 01; the comment above a trace says why.
 //
-// A line of the input is a comment, `# ..`; a title, `= ..`, which is printed; bytes of the trace, two hex digits and
-// a space each; or empty, which ends the case, as the end of the input does.
-ghost use mathlib.Core.Path.{_≡_};
-ghost use Prim.Native.Nat.{_<_, _≤_};
+// A line of the input is a comment, `# ..`; a title, `= ..`, which is printed; bytes of the trace, two hex digits each,
+// with spaces between them; or empty, which ends the case, as the end of the input does. A line that is none of these, or
+// that has more bytes than there is room for, is said so by its number, and the rest of it is left out.
 use bench::replay::replay;
 use libc::STDIN_FILENO;
 use libc::STDOUT_FILENO;
@@ -12,91 +11,176 @@ use libc::STDOUT_FILENO;
 // The longest trace of a case.
 const LONGEST: usize = 256;
 
+// Where the next byte of the input stands: at a line's start, in a comment, in a title, before a byte of the trace, or
+// between its two digits.
+enum Place {
+    Start,
+    Comment,
+    Title,
+    High,
+    Low(u8),
+}
+
+// The case so far: its trace has `len` bytes.
+struct Case {
+    place: Place,
+    line: u64,
+    len: usize,
+}
+
 fn main() {
-    let mut text = [0u8; 16384];
-    let n = io::read_full(STDIN_FILENO, &mut text);
-    cases(&text[..n]);
-}
-
-// Every line, and the last case.
-fn cases(text: &[u8]) {
+    let mut text = [0u8; 32768];
     let mut trace = [0u8; LONGEST];
-    let mut len = 0;
-    let mut at = 0;
-    while at < text.len() {
-        let next = line_after(text, at);
-        if text[at] == b'\n' {
-            replay(&trace[..len]);
+    let n = io::read_full(STDIN_FILENO, &mut text);
+    cases(&text[..n], &mut trace);
+}
+
+// Every byte of the input, and the last case.
+fn cases(text: &[u8], trace: &mut [u8]) {
+    let mut case = Case {
+        place: Place::Start,
+        line: 1,
+        len: 0,
+    };
+    let mut i = 0;
+    while i < text.len() {
+        case = take(case, trace, text[i]);
+        i += 1;
+    }
+    run(case.len, trace);
+}
+
+// The case after one more byte of the input.
+fn take(case: Case, trace: &mut [u8], b: u8) -> Case {
+    if b == b'\n' {
+        return end_line(case, trace);
+    }
+    let place = case.place;
+    match place {
+        Place::Start => first(case, b),
+        Place::Comment => case,
+        Place::Title => {
+            io::write_all(STDOUT_FILENO, &[b]);
+            case
+        }
+        Place::High => high(case, b),
+        Place::Low(digit) => low(case, trace, digit, b),
+    }
+}
+
+// A line's end. That of an empty line ends the case.
+fn end_line(case: Case, trace: &[u8]) -> Case {
+    let place = case.place;
+    let line = if case.line < 0xFFFF_FFFF {
+        case.line + 1
+    } else {
+        case.line
+    };
+    let mut len = case.len;
+    match place {
+        Place::Start => {
+            run(len, trace);
             len = 0;
-        } else {
-            len = take_line(&text[at..next], &mut trace, len);
         }
-        at = next;
-    }
-    replay(&trace[..len]);
-}
-
-// The place after the line that starts at `at`: the line has its newline, but for the last.
-fn line_after(text: &[u8], at: usize) -> usize
-    requires { do ⌜ at < (← ⟦text.len()⟧) ⌝ }
-    ensures after { λ r. ⌜ at < r ⌝ }
-    ensures within { λ r. do ⌜ r ≤ (← ⟦text.len()⟧ .entry) ⌝ }
-{
-    let mut end = at;
-    while end < text.len() {
-        if text[end] == b'\n' {
-            return end + 1;
+        Place::Comment => {}
+        Place::Title => {
+            io::write_all(STDOUT_FILENO, b"\n");
         }
-        end += 1;
+        Place::High => {}
+        Place::Low(_) => fault(case.line, b": half a byte\n"),
     }
-    end
+    Case {
+        place: Place::Start,
+        line,
+        len,
+    }
 }
 
-// A line that is not empty, with `len` bytes of the trace before it: how many there are after it.
-fn take_line(line: &[u8], trace: &mut [u8], len: usize) -> usize
-    requires some { do ⌜ 0 < (← ⟦line.len()⟧) ⌝ }
-    requires whole { do ⌜ (← ⟦trace.len()⟧) ≡ 256 ⌝ }
-    requires room { ⌜ len ≤ 256 ⌝ }
-    ensures { λ r. ⌜ r ≤ 256 ⌝ }
-{
-    let first = line[0];
-    if first == b'#' {
-        return len;
+fn run(len: usize, trace: &[u8]) {
+    if len <= trace.len() {
+        replay(&trace[..len]);
     }
-    if first == b'=' {
-        io::write_all(STDOUT_FILENO, b"=");
-        io::write_all(STDOUT_FILENO, line);
-        return len;
-    }
-    put_bytes(line, trace, len)
 }
 
-// The bytes of a line, put behind the `len` bytes of the trace, as far as there is room: how many there are then.
-fn put_bytes(line: &[u8], trace: &mut [u8], len: usize) -> usize
-    requires whole { do ⌜ (← ⟦trace.len()⟧) ≡ 256 ⌝ }
-    requires room { ⌜ len ≤ 256 ⌝ }
-    ensures { λ r. ⌜ r ≤ 256 ⌝ }
-{
-    let mut n = len;
-    let mut at = 0;
-    while at + 1 < line.len() {
-        if n == LONGEST {
-            return n;
+fn fault(line: u64, text: &[u8]) {
+    io::write_all(STDOUT_FILENO, b"? line ");
+    io::print_decimal(STDOUT_FILENO, line);
+    io::write_all(STDOUT_FILENO, text);
+}
+
+// A line's first byte.
+fn first(case: Case, b: u8) -> Case {
+    match b {
+        b'#' => Case {
+            place: Place::Comment,
+            ..case
+        },
+        b'=' => {
+            io::write_all(STDOUT_FILENO, b"==");
+            Case {
+                place: Place::Title,
+                ..case
+            }
         }
-        trace[n] = digit(line[at]) * 16 + digit(line[at + 1]);
-        n += 1;
-        at += 3;
+        _ => high(case, b),
     }
-    n
 }
 
-// The value of a hex digit, and 0 of any other byte.
-fn digit(b: u8) -> u8
-    ensures { λ r. ⌜ r < 16 ⌝ }
-{
+// A byte's first digit, or a space before it.
+fn high(case: Case, b: u8) -> Case {
+    let high = digit(b);
+    if high < 16 {
+        return Case {
+            place: Place::Low(high),
+            ..case
+        };
+    }
+    if b == b' ' {
+        return Case {
+            place: Place::High,
+            ..case
+        };
+    }
+    fault(case.line, b": no hex digit\n");
+    Case {
+        place: Place::Comment,
+        ..case
+    }
+}
+
+// A byte's second digit, which puts the byte into the trace.
+fn low(case: Case, trace: &mut [u8], high: u8, b: u8) -> Case {
+    let low = digit(b);
+    let line = case.line;
+    let len = case.len;
+    if 16 <= low {
+        fault(line, b": no hex digit\n");
+        return Case {
+            place: Place::Comment,
+            ..case
+        };
+    }
+    if trace.len() <= len {
+        fault(line, b": trace too long\n");
+        return Case {
+            place: Place::Comment,
+            ..case
+        };
+    }
+    trace[len] = (high << 4) | low;
+    Case {
+        place: Place::High,
+        line,
+        len: len + 1,
+    }
+}
+
+// The value of a hex digit, and 16 of any other byte.
+fn digit(b: u8) -> u8 {
     match b {
         b'0'..=b'9' => b - b'0',
         b'A'..=b'F' => b - b'A' + 10,
-        _ => 0,
+        b'a'..=b'f' => b - b'a' + 10,
+        _ => 16,
     }
 }

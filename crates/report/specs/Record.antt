@@ -1,4 +1,4 @@
--- A select's record, event by event. `RecordLaws` has its counts over a whole select. Assumes nothing.
+-- A select's record, event by event. `RecordLaws` says what is claimed of its counts. Assumes nothing.
 use Prim.Native.Nat.{ℕ, _+_, _*_, _%_}
 use mathlib.Core.Bool.{Bool, true, false, cond}
 use mathlib.Core.List.{List}

@@ -68,6 +68,7 @@ examples =
     ∷ write (0x55 ∷ []) 0 128 (refused 11 0) (0x55 ∷ [])
     ∷ write (0x55 ∷ []) 1 0 (refused 11 1) (0x55 ∷ [])
     ∷ write [] 0 0 (refused 11 0) []
+    ∷ write (0x55 ∷ 0x55 ∷ []) 1 127 (placed 2) (0x55 ∷ 0x7F ∷ [])
     -- the largest place and value that there are
     ∷ read (0x7F ∷ []) top (refused 10 top)
     ∷ write (0x55 ∷ []) top 0 (refused 10 top) (0x55 ∷ [])

@@ -1,0 +1,83 @@
+-- After k events the bench is where the first k events of the item lead, so the others lead on from there; a refused
+-- one ends it.
+use mathlib.Core.Path.{_≡_, refl, _∙_}
+use Prim.Native.Nat.{_-_}
+use lib.ListN.{length, drop}
+use Rattle.report.specs.Items.{itemEvents}
+use Rattle.bench.specs.Bench.{benchOf, onPage}
+use Rattle.bench.specs.Page.{pageOf}
+use Rattle.bench.specs.Run.{afterEvents, afterItem}
+use Rattle.bench.proofs.Events.{events-on, events-end, events-over}
+use borrow.Author.Needs.{needs}
+use Rattle.bench.proofs.run.take_item.Statement.{statement}
+use Rattle.bench.proofs.run.take_item.Tie as tie
+
+abbrev Inv-loop : tie.InvT-loop
+Inv-loop array₀ shown₀ out₀ item events turn₀ k₀ array shown out turn k =
+    (length array ≡ length array₀) × (length out ≡ length out₀)
+    × (onPage (pageOf out (turn .at)) (afterEvents (benchOf turn array shown) (drop k (itemEvents item)))
+    ≡ onPage (pageOf out₀ (turn₀ .at)) (afterEvents (benchOf turn₀ array₀ shown₀) (itemEvents item)))
+
+abbrev μ-loop : tie.MeasureT-loop
+μ-loop array₀ shown₀ out₀ item events turn₀ k₀ array shown out turn k = events - k
+
+events-of-requires : tie.Need-events-of-requires Inv-loop μ-loop
+events-of-requires c κs = search needs
+
+loop-holds : tie.Need-loop-holds Inv-loop μ-loop
+loop-holds c = (refl, refl, refl)
+
+same-length : tie.Need-same-length Inv-loop μ-loop
+same-length c = search needs
+
+same-length-2 : tie.Need-same-length-2 Inv-loop μ-loop
+same-length-2 c = search needs
+
+returns : tie.Need-returns Inv-loop μ-loop
+unfolding afterItem
+returns c = events-end (drop (c .before .before .before .loop .k) (itemEvents _)) _ _ _ _ (c .if1 .taken) ∙ c .before .before .before .loop .inv .2
+
+event-of-requires : tie.Need-event-of-requires Inv-loop μ-loop
+event-of-requires c κs = search needs
+
+take-event-requires : tie.Need-take-event-requires Inv-loop μ-loop
+take-event-requires c κs = search needs
+
+add-k : tie.Need-add-k Inv-loop μ-loop
+add-k c = search needs
+
+loop-less : tie.Need-loop-less Inv-loop μ-loop
+loop-less c = search needs
+
+loop-again : tie.Need-loop-again Inv-loop μ-loop
+loop-again c = (search needs, search needs, events-on _ _ _ _ _ _ _ _ _ _ _ _ (c .before .before .before .before .before .before .before .before .before .before .before .before .before .events-of .ensures) (c .before .before .before .before .before .before .before .before .before .before .before .loop-test .taken) (c .before .before .before .before .before .event-of .ensures) (c .before .before .before .before .before .before .before .before .before .if1 .left) (c .before .before .before .before .take-event .ensures) ∙ c .before .before .before .before .before .before .before .before .before .before .before .before .loop .inv .2)
+
+same-length-3 : tie.Need-same-length-3 Inv-loop μ-loop
+same-length-3 c = search needs
+
+same-length-4 : tie.Need-same-length-4 Inv-loop μ-loop
+same-length-4 c = search needs
+
+returns-2 : tie.Need-returns-2 Inv-loop μ-loop
+unfolding afterItem
+returns-2 c = events-over _ _ _ _ _ _ _ (c .before .before .events-of .ensures) (c .loop-test .left) ∙ c .before .loop .inv .2
+
+pub take-item-spec : {M : Type 1} → statement M
+take-item-spec =
+    tie.close
+    (tie.spec
+    Inv-loop
+    μ-loop
+    events-of-requires
+    loop-holds
+    same-length
+    same-length-2
+    returns
+    event-of-requires
+    take-event-requires
+    add-k
+    loop-less
+    loop-again
+    same-length-3
+    same-length-4
+    returns-2)
