@@ -106,7 +106,7 @@ sckRise f s = cond (holdHigh (s .hold)) (rose s (rise f (seenBy s) (s .stage))) 
 
 -- "Output moves on a seen fall of SCK"
 abbrev pub shown : Figure → List ℕ → State → Stage
-shown f xs s = fall f xs (statusByte (s .kept) (s .latch)) (s .stage)
+shown f xs s = fall f xs (statusByte f (s .kept) (s .latch)) (s .stage)
 
 unfoldable pub sckFall : Figure → List ℕ → State → Moved
 sckFall f xs s =

@@ -132,7 +132,7 @@ impl State {
         let hold = self.hold;
         let stage = self.stage;
         if hold_high(hold) {
-            let status = status_byte(self.kept, self.latch);
+            let status = status_byte(f, self.kept, self.latch);
             let next = fall(f, array, status, stage);
             let state = State {
                 sck: false,

@@ -144,7 +144,7 @@ module _ (part : ℕ) (fair : Fair (figureOf part)) where
     sck-low : After 2
     unfolding after refused put act placed base step live sckFall written
     sck-low true High p v stage s =
-        on p w v false si wp High _ (select-fall (figureOf part) w (v .array) (statusByte (v .kept) (v .latch)) s)
+        on p w v false si wp High _ (select-fall (figureOf part) w (v .array) (statusByte (figureOf part) (v .kept) (v .latch)) s)
     sck-low true LowCsLow p v stage s = on p w v false si wp LowCsLow stage s
     sck-low true LowCsHigh p v stage s = on p w v false si wp LowCsHigh stage s
     sck-low false hold p v stage s = on p w v false si wp hold stage s
