@@ -7,23 +7,33 @@ use lib.Dec.{eqb, leb}
 use Rattle.parts.specs.Figures.{figureOf, fitsPart}
 use Rattle.parts.specs.declared.figures.Figure.{Figure}
 use Rattle.stages.specs.Close.{isClosed}
+use Rattle.select.specs.declared.notes.Level.{Level}
 use Rattle.select.specs.declared.notes.Level.the-variants.{Released}
 use Rattle.select.specs.declared.notes.Note.{Note}
 use Rattle.select.specs.declared.notes.Note.the-variants.{Nothing, Latch, Stored, HeldBack, KeptSet, KeptHeldBack, PowerLost}
 use Rattle.lines.specs.Lines.{holdHigh, csLevel, soLevel}
-use Rattle.lines.specs.Edges.{silent, csFall, csRise, sckRise, sckFall, siTo, holdFall, holdRise, wpTo, vddFall, vddRise}
+use Rattle.lines.specs.Edges.{silent, csFall, csRise, sckRise, sckFall, siRise, siFall, holdFall, holdRise, wpRise, wpFall, vddFall, vddRise}
 use Rattle.lines.specs.Sound.{sound}
 use Rattle.lines.specs.declared.state.State.{State}
 use Rattle.lines.specs.declared.state.Moved.{Moved}
 use Rattle.chip.specs.declared.event.Answer.{Answer}
+use Rattle.chip.specs.declared.event.Stepped.{Stepped}
+
+-- what an event comes to: "a refusal number or 0; the state; .. and one note"
+abbrev pub accepted : Moved → Stepped
+accepted m = record { refusal = 0; note = m .note; state = m .state }
+
+-- "Any other refusal returns its number with the state given; .. the note is nothing."
+abbrev pub refused : ℕ → State → Stepped
+refused number s = record { refusal = number; note = Nothing; state = s }
+
+-- "the level of SO after it"; at a refusal "SO reads released"
+abbrev pub soAfter : ℕ → State → Level
+soAfter refusal s = cond (eqb refusal 0) (soLevel s) Released
 
 -- "The answer to an event: a refusal number or 0; the state; the level of SO after it; and one note"
-abbrev pub accepted : Moved → Answer
-accepted m = record { refusal = 0; so = soLevel (m .state); note = m .note; state = m .state }
-
--- "Any other refusal returns its number with the state given; SO reads released, the note is nothing."
-abbrev pub refused : ℕ → State → Answer
-refused number s = record { refusal = number; so = Released; note = Nothing; state = s }
+abbrev pub answerOf : Stepped → Answer
+answerOf t = record { refusal = t .refusal; so = soAfter (t .refusal) (t .state); note = t .note; state = t .state }
 
 -- "Setting a pin to the level it has is accepted and has no effect."
 abbrev pub csTo : State → Bool → Moved
@@ -40,22 +50,31 @@ csStayed s = cond (isClosed (s .stage)) (csLevel s) (not (csLevel s))
 
 -- "/HOLD may move only with SCK low, select open or not. It may rise only with /CS at the level it had when /HOLD
 --  fell (H)." Else 6, "power on, /HOLD would move with SCK high", or 7, "power on, /HOLD would rise with /CS moved".
-abbrev pub holdTo : State → Bool → Answer
-holdTo s true =
-    cond (holdHigh (s .hold)) (accepted (silent s))
-    (cond (s .sck) (refused 6 s)
-    (cond (csStayed s) (accepted (holdRise s)) (refused 7 s)))
+abbrev pub holdUp : State → Stepped
+holdUp s = cond (s .sck) (refused 6 s) (cond (csStayed s) (accepted (holdRise s)) (refused 7 s))
+
+abbrev pub holdTo : State → Bool → Stepped
+holdTo s true = cond (holdHigh (s .hold)) (accepted (silent s)) (holdUp s)
 holdTo s false =
     cond (holdHigh (s .hold))
     (cond (s .sck) (refused 6 s) (accepted (holdFall s)))
     (accepted (silent s))
+
+-- SI and /WP go to the level that they are set to, had before or not
+abbrev pub siTo : State → Bool → Moved
+siTo s true = siRise s
+siTo s false = siFall s
+
+abbrev pub wpTo : State → Bool → Moved
+wpTo s true = wpRise s
+wpTo s false = wpFall s
 
 abbrev pub vddTo : State → Bool → Moved
 vddTo s true = silent s
 vddTo s false = vddFall s
 
 -- "Pins: 0 /CS, 1 SCK, 2 SI, 3 /HOLD, 4 /WP, 5 VDD."
-unfoldable pub live : Figure → List ℕ → State → ℕ → Bool → Answer
+unfoldable pub live : Figure → List ℕ → State → ℕ → Bool → Stepped
 live f xs s pin level =
     cond (eqb pin 0) (accepted (csTo s level))
     (cond (eqb pin 1) (accepted (sckTo f xs s level))
@@ -66,11 +85,11 @@ live f xs s pin level =
 
 -- "With power off, each event but 11 is accepted and has no effect." "Event 11 then gives the power-up state, with the
 --  note nothing."
-abbrev pub dark : State → ℕ → Answer
+abbrev pub dark : State → ℕ → Stepped
 dark s code = accepted (cond (eqb code 11) (vddRise s) (silent s))
 
 -- "its code is twice the pin number plus the level"
-unfoldable pub step : Figure → List ℕ → State → ℕ → Answer
+unfoldable pub step : Figure → List ℕ → State → ℕ → Stepped
 step f xs s code = cond (s .power) (live f xs s (code / 2) (eqb (code % 2) 1)) (dark s code)
 
 -- "An event checks 4, 2, 5, 6, 7." The first three: 4 "state fails the soundness test", 2, 5 "event code 12 or more".
@@ -82,12 +101,15 @@ checks s len code =
     (cond (leb 12 code) 5
     0))
 
--- one event on the lent array
-unfoldable pub event : List ℕ → State → ℕ → Answer
-event xs s code =
+-- one event on the lent array: refused by the first checks, or the step
+abbrev pub tested : List ℕ → State → ℕ → Stepped
+tested xs s code =
     cond (eqb (checks s (length xs) code) 0)
     (step (figureOf (s .part)) xs s code)
     (refused (checks s (length xs) code) s)
+
+unfoldable pub event : List ℕ → State → ℕ → Answer
+event xs s code = answerOf (tested xs s code)
 
 -- the array after an event: one byte changes, where the note says stored
 unfoldable pub written : Note → List ℕ → List ℕ

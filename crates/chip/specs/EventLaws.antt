@@ -1,24 +1,41 @@
 -- An event by what its checks give. Assumes nothing.
 use Prim.Native.Nat.{ℕ, _<_}
-use mathlib.Core.Path.{_≡_, refl}
+use mathlib.Core.Path.{_≡_, refl, sym, ap, _∙_}
 use mathlib.Core.Bool.{Bool, true, false, cond, not}
 use mathlib.Core.List.{List}
 use lib.ListN.{length}
 use lib.Dec.{eqb, leb}
-use borrow.Author.Tests.{eqb-false, eqb-true, eq-eqb, leb-false}
+use borrow.Author.Tests.{eqb-false, eqb-true, eq-eqb, ne-eqb, leb-false}
 use Rattle.parts.specs.Figures.{figureOf, fitsPart}
-use Rattle.chip.specs.Event.{checks, event, step, refused}
+use Rattle.parts.specs.declared.figures.Figure.{Figure}
+use Rattle.chip.specs.Event.{checks, event, step, refused, answerOf}
 use Rattle.lines.specs.Sound.{sound}
 use Rattle.lines.specs.declared.state.State.{State}
+use Rattle.chip.specs.declared.event.Answer.{Answer}
+use Rattle.chip.specs.declared.event.Stepped.{Stepped}
 
 module _ (xs : List ℕ) (s : State) (code : ℕ) where
-  pub event-refused : eqb (checks s (length xs) code) 0 ≡ false → event xs s code ≡ refused (checks s (length xs) code) s
-  unfolding event
-  event-refused e = rw e
+  by : Bool → Answer
+  by passed = answerOf (cond passed (step (figureOf (s .part)) xs s code) (refused (checks s (length xs) code) s))
 
-  pub event-steps : eqb (checks s (length xs) code) 0 ≡ true → event xs s code ≡ step (figureOf (s .part)) xs s code
-  unfolding event
-  event-steps e = rw e
+  pub event-refused : eqb (checks s (length xs) code) 0 ≡ false → event xs s code ≡ answerOf (refused (checks s (length xs) code) s)
+  unfolding event by
+  event-refused e = ap by e
+
+  pub event-steps : eqb (checks s (length xs) code) 0 ≡ true → event xs s code ≡ answerOf (step (figureOf (s .part)) xs s code)
+  unfolding event by
+  event-steps e = ap by e
+
+  -- what the call does in either case
+  pub passed : {r : Answer} {t : Stepped} {f : Figure} {n : ℕ}
+      → r ≡ answerOf t → t ≡ step f xs s code → f ≡ figureOf (s .part) → n ≡ checks s (length xs) code → n ≡ 0 → r ≡ event xs s code
+  passed er et ef en e =
+      er ∙ ap answerOf (et ∙ ap (λ (f : Figure). step f xs s code) ef) ∙ sym (event-steps (eq-eqb _ _ (sym en ∙ e)))
+
+  pub stopped : {r : Answer} {t : Stepped} {n : ℕ}
+      → r ≡ answerOf t → t ≡ refused n s → n ≡ checks s (length xs) code → (n ≡ 0 → ⊥) → r ≡ event xs s code
+  stopped er et en e =
+      er ∙ ap answerOf (et ∙ ap (λ (n : ℕ). refused n s) en) ∙ sym (event-refused (ne-eqb _ _ (λ q. e (en ∙ q))))
 
   pub checks-none : sound s ≡ true → fitsPart (s .part) (length xs) ≡ true → leb 12 code ≡ false → checks s (length xs) code ≡ 0
   unfolding checks
@@ -48,5 +65,5 @@ module _ (xs : List ℕ) (s : State) (code : ℕ) (fine : event xs s code .refus
       go true e h = eqb-true _ _ e
       go false e h = h
 
-  pub accepted-steps : event xs s code ≡ step (figureOf (s .part)) xs s code
+  pub accepted-steps : event xs s code ≡ answerOf (step (figureOf (s .part)) xs s code)
   accepted-steps = event-steps xs s code (eq-eqb _ _ accepted-passed)

@@ -2,10 +2,12 @@ pub mod Event
 pub mod Answers
 pub mod Power
 pub mod Promises
+pub mod Run
 pub mod EventLaws
 pub mod RefusalLaws
 pub mod PowerLaws
 pub mod SoundLaws
+pub mod RunLaws
 pub mod WatchLaws
 pub mod Outcomes
 pub mod Examples

@@ -10,16 +10,17 @@ use lib.ListN.{length}
 use Rattle.parts.specs.Figures.{figureOf}
 use Rattle.parts.specs.TestLaws.{choose}
 use Rattle.parts.specs.declared.figures.Figure.{Figure}
-use Rattle.lines.specs.Edges.{silent, siTo, holdFall, holdRise, wpTo, vddRise}
+use Rattle.lines.specs.Edges.{silent, holdFall, holdRise, vddRise}
 use Rattle.lines.specs.Lines.{holdHigh}
 use Rattle.lines.specs.declared.state.State.{State}
 use Rattle.lines.specs.declared.state.Moved.{Moved}
-use Rattle.chip.specs.Event.{accepted, refused, csTo, sckTo, holdTo, csStayed, vddTo, live, step, checks, event, written}
+use Rattle.chip.specs.Event.{accepted, refused, answerOf, csTo, sckTo, siTo, holdTo, csStayed, wpTo, vddTo, live, step, tested, checks, event, written}
 use Rattle.chip.specs.declared.event.Answer.{Answer}
+use Rattle.chip.specs.declared.event.Stepped.{Stepped}
 
 module _ (s : State) where
-  abbrev Told : Answer → Type 0
-  Told a = eqb (a .refusal) 0 ≡ false → a ≡ refused (a .refusal) s
+  abbrev Told : Stepped → Type 0
+  Told t = eqb (t .refusal) 0 ≡ false → t ≡ refused (t .refusal) s
 
   accept : (m : Moved) → Told (accepted m)
   accept m h = absurd (eqb-false 0 1 refl cc)
@@ -44,14 +45,19 @@ module _ (s : State) where
       (choose Told (eqb pin 4) (accept (wpTo s level))
       (accept (vddTo s level))))))
 
-  pub refusal-told : (xs : List ℕ) (code : ℕ) → Told (event xs s code)
-  unfolding event step
-  refusal-told xs code =
+  tested-told : (xs : List ℕ) (code : ℕ) → Told (tested xs s code)
+  unfolding step
+  tested-told xs code =
       choose Told (eqb (checks s (length xs) code) 0)
       (choose Told (s .power)
       (live-told (figureOf (s .part)) xs (code / 2) (eqb (code % 2) 1))
       (accept (cond (eqb code 11) (vddRise s) (silent s))))
       (refuse (checks s (length xs) code))
+
+  pub refusal-told :
+      (xs : List ℕ) (code : ℕ) → eqb (event xs s code .refusal) 0 ≡ false → event xs s code ≡ answerOf (refused (event xs s code .refusal) s)
+  unfolding event
+  refusal-told xs code h = ap answerOf (tested-told xs code h)
 
   pub refusal-stays :
       (xs : List ℕ) (code : ℕ) → eqb (event xs s code .refusal) 0 ≡ false → written (event xs s code .note) xs ≡ xs

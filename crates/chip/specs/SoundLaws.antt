@@ -10,19 +10,19 @@ use lib.Dec.{eqb}
 use Rattle.parts.specs.Figures.{figureOf}
 use Rattle.parts.specs.TestLaws.{choose}
 use Rattle.lines.specs.Edges.{holdFall, holdRise}
-use Rattle.chip.specs.Event.{csTo, sckTo, holdTo, csStayed, vddTo, live, dark, step, checks, event}
+use Rattle.chip.specs.Event.{csTo, sckTo, siTo, holdTo, csStayed, wpTo, vddTo, live, dark, step, checks, event}
 use Rattle.chip.specs.EventLaws.{checks-passed, accepted-passed}
 use Rattle.lines.specs.Lines.{atRest, csLevel, holdHigh}
 use Rattle.chip.specs.Power.{powerRefusal, powerUp}
 use Rattle.chip.specs.PowerLaws.{part-and-size, fill-and-mask}
 use Rattle.lines.specs.Sound.{sound}
 use Rattle.lines.specs.declared.state.State.{State}
-use Rattle.chip.specs.declared.event.Answer.{Answer}
+use Rattle.chip.specs.declared.event.Stepped.{Stepped}
 use Rattle.chip.specs.declared.power.Powered.{Powered}
 use Rattle.lines.specs.SoundLaws.{good, rest-sound, Sound, Keeps, kept-on, cs-fall, cs-rise, sck-rise, sck-fall}
 
-abbrev Answers : Answer → Type 0
-Answers a = Sound (a .state)
+abbrev Answers : Stepped → Type 0
+Answers t = Sound (t .state)
 
 module _ (s : State) (h : sound s ≡ true) (on : s .power ≡ true) where
   cs-to : (level : Bool) → Keeps (csTo s level)
@@ -41,6 +41,14 @@ module _ (s : State) (h : sound s ≡ true) (on : s .power ≡ true) where
   hold-to false =
       choose Answers (holdHigh (s .hold)) (choose Answers (s .sck) h (kept-on s h on _ refl refl refl refl)) h
 
+  si-to : (level : Bool) → Keeps (siTo s level)
+  si-to true = kept-on s h on _ refl refl refl refl
+  si-to false = kept-on s h on _ refl refl refl refl
+
+  wp-to : (level : Bool) → Keeps (wpTo s level)
+  wp-to true = kept-on s h on _ refl refl refl refl
+  wp-to false = kept-on s h on _ refl refl refl refl
+
   vdd-to : (level : Bool) → Keeps (vddTo s level)
   vdd-to true = h
   vdd-to false = rest-sound (s .part) (s .kept) false (good s h .part) (good s h .kept)
@@ -50,9 +58,9 @@ module _ (s : State) (h : sound s ≡ true) (on : s .power ≡ true) where
   live-sound xs pin level =
       choose Answers (eqb pin 0) (cs-to level)
       (choose Answers (eqb pin 1) (sck-to xs level)
-      (choose Answers (eqb pin 2) (kept-on s h on _ refl refl refl refl)
+      (choose Answers (eqb pin 2) (si-to level)
       (choose Answers (eqb pin 3) (hold-to level)
-      (choose Answers (eqb pin 4) (kept-on s h on _ refl refl refl refl)
+      (choose Answers (eqb pin 4) (wp-to level)
       (vdd-to level)))))
 
 module _ (s : State) (h : sound s ≡ true) where
@@ -69,7 +77,7 @@ module _ (s : State) (h : sound s ≡ true) where
       go false e = dark-sound code
 
   -- accepted or refused, an event leads from a sound state to a sound one
-  pub event-sound : (xs : List ℕ) (code : ℕ) → Answers (event xs s code)
+  pub event-sound : (xs : List ℕ) (code : ℕ) → Sound (event xs s code .state)
   unfolding event
   event-sound xs code = choose Answers (eqb (checks s (length xs) code) 0) (step-sound xs code) h
 

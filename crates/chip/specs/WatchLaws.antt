@@ -21,9 +21,9 @@ use Rattle.lines.specs.SoundLaws.{closed-is}
 use Rattle.lines.specs.Watch.{isOpen, seesRise}
 use Rattle.lines.specs.declared.state.State.{State}
 use Rattle.lines.specs.declared.state.Moved.{Moved}
-use Rattle.chip.specs.Event.{accepted, csTo, sckTo, holdTo, csStayed, vddTo, live, dark, step, event}
+use Rattle.chip.specs.Event.{accepted, csTo, sckTo, siTo, holdTo, csStayed, wpTo, vddTo, live, dark, step, event}
 use Rattle.chip.specs.EventLaws.{accepted-steps}
-use Rattle.chip.specs.declared.event.Answer.{Answer}
+use Rattle.chip.specs.declared.event.Stepped.{Stepped}
 
 -- the stage after an event that takes no bit: as it was, or a select opened or closed, or a fall of SCK
 pub data Unclocked (f : Figure) (xs : List ℕ) (s : State) : Stage → Type 0 where
@@ -32,9 +32,9 @@ pub data Unclocked (f : Figure) (xs : List ℕ) (s : State) : Stage → Type 0 w
   closes : Unclocked f xs s Closed
   falls : Unclocked f xs s (shown f xs s)
 
--- SCK was low and is high after this answer, with /HOLD high and a select open
-abbrev pub seenRise : State → Answer → Bool
-seenRise s a = not (s .sck) && a .state .sck && holdHigh (s .hold) && isOpen s
+-- SCK was low and is high in the next state, with /HOLD high and a select open
+abbrev pub seenRise : State → State → Bool
+seenRise s next = not (s .sck) && next .sck && holdHigh (s .hold) && isOpen s
 
 still : (k : Bool) → (not k && k) ≡ false
 still true = refl
@@ -82,8 +82,8 @@ module _ (f : Figure) (xs : List ℕ) (s : State) where
   abbrev Moves : Moved → Type 0
   Moves m = Passes (m .state)
 
-  abbrev Answers : Answer → Type 0
-  Answers a = Passes (a .state)
+  abbrev Steps : Stepped → Type 0
+  Steps t = Passes (t .state)
 
   stays : Passes s
   stays = (still (s .sck), same)
@@ -105,27 +105,35 @@ module _ (f : Figure) (xs : List ℕ) (s : State) where
       (choose Passes (holdHigh (s .hold)) (never (not (s .sck)), falls) (never (not (s .sck)), same))
       stays
 
-  hold-passes : (level : Bool) → Answers (holdTo s level)
+  hold-passes : (level : Bool) → Steps (holdTo s level)
   unfolding holdFall holdRise
   hold-passes true =
-      choose Answers (holdHigh (s .hold)) stays
-      (choose Answers (s .sck) stays (choose Answers (csStayed s) (still (s .sck), same) stays))
+      choose Steps (holdHigh (s .hold)) stays
+      (choose Steps (s .sck) stays (choose Steps (csStayed s) (still (s .sck), same) stays))
   hold-passes false =
-      choose Answers (holdHigh (s .hold)) (choose Answers (s .sck) stays (still (s .sck), same)) stays
+      choose Steps (holdHigh (s .hold)) (choose Steps (s .sck) stays (still (s .sck), same)) stays
+
+  si-passes : (level : Bool) → Moves (siTo s level)
+  si-passes true = (still (s .sck), same)
+  si-passes false = (still (s .sck), same)
+
+  wp-passes : (level : Bool) → Moves (wpTo s level)
+  wp-passes true = (still (s .sck), same)
+  wp-passes false = (still (s .sck), same)
 
   vdd-passes : (level : Bool) → Moves (vddTo s level)
   vdd-passes true = stays
   vdd-passes false = (never (not (s .sck)), closes)
 
-  others-pass : (code : ℕ) → eqb code 3 ≡ false → Answers (step f xs s code)
+  others-pass : (code : ℕ) → eqb code 3 ≡ false → Steps (step f xs s code)
   unfolding step live
   others-pass code h =
-      choose Answers (s .power)
-      (choose Answers (eqb (code / 2) 0) (cs-passes level)
-      (choose-on Answers (eqb (code / 2) 1) (λ e. falls-only level refl e)
-      (choose Answers (eqb (code / 2) 2) (still (s .sck), same)
-      (choose Answers (eqb (code / 2) 3) (hold-passes level)
-      (choose Answers (eqb (code / 2) 4) (still (s .sck), same)
+      choose Steps (s .power)
+      (choose Steps (eqb (code / 2) 0) (cs-passes level)
+      (choose-on Steps (eqb (code / 2) 1) (λ e. falls-only level refl e)
+      (choose Steps (eqb (code / 2) 2) (si-passes level)
+      (choose Steps (eqb (code / 2) 3) (hold-passes level)
+      (choose Steps (eqb (code / 2) 4) (wp-passes level)
       (vdd-passes level))))))
       (choose Moves (eqb code 11) (never (not (s .sck)), closes) stays)
     where
@@ -140,14 +148,14 @@ module _ (f : Figure) (xs : List ℕ) (s : State) where
       falls-only false e p = sck-passes
 
   -- event 3, by the power, the level of SCK and whether /HOLD is high
-  abbrev raised : Bool → Bool → Bool → Answer
+  abbrev raised : Bool → Bool → Bool → Stepped
   raised p k h =
       cond p
       (accepted (cond k (silent s) (cond h (rose s (rise f (seenBy s) (s .stage))) (silent (withSck s true)))))
       (accepted (silent s))
 
   -- "Each seen rise of SCK in an open select", no more and no less
-  pub rise-exact : (code : ℕ) → seesRise s code ≡ seenRise s (step f xs s code)
+  pub rise-exact : (code : ℕ) → seesRise s code ≡ seenRise s (step f xs s code .state)
   unfolding seesRise step live sckRise
   rise-exact code = go (eqb code 3) refl
     where
@@ -161,9 +169,9 @@ module _ (f : Figure) (xs : List ℕ) (s : State) where
       three true false true false e = refl
       three true false true true e = refl
 
-      go : (t : Bool) → eqb code 3 ≡ t → seesRise s code ≡ seenRise s (step f xs s code)
+      go : (t : Bool) → eqb code 3 ≡ t → seesRise s code ≡ seenRise s (step f xs s code .state)
       go true e =
-          subst (λ (k : ℕ). seesRise s k ≡ seenRise s (step f xs s k)) (sym (eqb-true code 3 e))
+          subst (λ (k : ℕ). seesRise s k ≡ seenRise s (step f xs s k .state)) (sym (eqb-true code 3 e))
           (three (s .power) (s .sck) (holdHigh (s .hold)) (isOpen s) refl)
       go false e =
           ap (λ (t : Bool). s .power && holdHigh (s .hold) && isOpen s && not (s .sck) && t) e
@@ -193,5 +201,5 @@ module _ (f : Figure) (xs : List ℕ) (s : State) where
 -- an accepted event is such a step
 pub event-exact :
     (xs : List ℕ) (s : State) (code : ℕ) → event xs s code .refusal ≡ 0
-    → seesRise s code ≡ seenRise s (event xs s code)
+    → seesRise s code ≡ seenRise s (event xs s code .state)
 event-exact xs s code fine = rw (accepted-steps xs s code fine) (rise-exact (figureOf (s .part)) xs s code)

@@ -1,6 +1,6 @@
 // One event.
 ghost use mathlib.Core.Path.{_≡_};
-ghost use Rattle.chip.specs.Event.{accepted, refused, csTo, sckTo, csStayed, holdTo, vddTo, live, dark, step, checks, written};
+ghost use Rattle.chip.specs.Event.{accepted, refused, soAfter, answerOf, csTo, sckTo, siTo, csStayed, holdUp, holdTo, wpTo, vddTo, live, dark, step, checks, written};
 ghost use Rattle.chip.specs.Promises.{EventPromise};
 use lines::hold::hold_high;
 use lines::sound::sound;
@@ -20,27 +20,57 @@ pub struct Answer {
     pub state: State,
 }
 
-fn accept(moved: Moved) -> Answer
+// What an event comes to; SO is then asked of the state.
+pub struct Stepped {
+    pub refusal: u8,
+    pub note: Note,
+    pub state: State,
+}
+
+fn accept(moved: Moved) -> Stepped
     ensures { λ r. ⌜ r ≡ accepted moved ⌝ }
 {
     let state = moved.state;
     let note = moved.note;
-    let so = state.so();
-    Answer {
+    Stepped {
         refusal: 0,
-        so,
         note,
         state,
     }
 }
 
-fn refuse(refusal: u8, state: State) -> Answer
+fn refuse(refusal: u8, state: State) -> Stepped
     ensures { λ r. ⌜ r ≡ refused refusal state ⌝ }
 {
+    Stepped {
+        refusal,
+        note: Note::Nothing,
+        state,
+    }
+}
+
+// The level of SO after an event, released where it was refused.
+fn so_after(refusal: u8, state: State) -> Level
+    ensures { λ r. ⌜ r ≡ soAfter refusal state ⌝ }
+{
+    if refusal == 0 {
+        state.so()
+    } else {
+        Level::Released
+    }
+}
+
+fn answer_of(stepped: Stepped) -> Answer
+    ensures { λ r. ⌜ r ≡ answerOf stepped ⌝ }
+{
+    let refusal = stepped.refusal;
+    let note = stepped.note;
+    let state = stepped.state;
+    let so = so_after(refusal, state);
     Answer {
         refusal,
-        so: Level::Released,
-        note: Note::Nothing,
+        so,
+        note,
         state,
     }
 }
@@ -84,30 +114,64 @@ fn cs_stayed(state: State) -> bool
     if is_closed(stage) { cs } else { !cs }
 }
 
-fn hold_to(state: State, level: bool) -> Answer
+// /HOLD, low so far, set high.
+fn hold_up(state: State) -> Stepped
+    ensures { λ r. ⌜ r ≡ holdUp state ⌝ }
+{
+    if state.sck {
+        refuse(6, state)
+    } else {
+        if cs_stayed(state) {
+            accept(state.hold_rise())
+        } else {
+            refuse(7, state)
+        }
+    }
+}
+
+fn hold_to(state: State, level: bool) -> Stepped
     ensures { λ r. ⌜ r ≡ holdTo state level ⌝ }
 {
     let hold = state.hold;
     let off = hold_high(hold);
     if level {
         if off {
-            return accept(state.silent());
+            accept(state.silent())
+        } else {
+            hold_up(state)
         }
-        if state.sck {
-            return refuse(6, state);
+    } else {
+        if off {
+            if state.sck {
+                refuse(6, state)
+            } else {
+                accept(state.hold_fall())
+            }
+        } else {
+            accept(state.silent())
         }
-        if cs_stayed(state) {
-            return accept(state.hold_rise());
-        }
-        return refuse(7, state);
     }
-    if off {
-        if state.sck {
-            return refuse(6, state);
-        }
-        return accept(state.hold_fall());
+}
+
+// SI and /WP go to the level that they are set to, had before or not.
+fn si_to(state: State, level: bool) -> Moved
+    ensures { λ r. ⌜ r ≡ siTo state level ⌝ }
+{
+    if level {
+        state.si_rise()
+    } else {
+        state.si_fall()
     }
-    accept(state.silent())
+}
+
+fn wp_to(state: State, level: bool) -> Moved
+    ensures { λ r. ⌜ r ≡ wpTo state level ⌝ }
+{
+    if level {
+        state.wp_rise()
+    } else {
+        state.wp_fall()
+    }
 }
 
 fn vdd_to(state: State, level: bool) -> Moved
@@ -121,31 +185,32 @@ fn vdd_to(state: State, level: bool) -> Moved
 }
 
 // An event with power on: the pin, and the level that it is set to.
-fn live(f: Figure, state: State, array: &[u8], pin: u8, level: bool) -> Answer
+fn live(f: Figure, state: State, array: &[u8], pin: u8, level: bool) -> Stepped
     ensures { λ r. ⌜ r ≡ live f (now (array .entry)) state pin level ⌝ }
 {
     match pin {
         0 => accept(cs_to(state, level)),
         1 => accept(sck_to(state, f, array, level)),
-        2 => accept(state.si_to(level)),
+        2 => accept(si_to(state, level)),
         3 => hold_to(state, level),
-        4 => accept(state.wp_to(level)),
+        4 => accept(wp_to(state, level)),
         _ => accept(vdd_to(state, level)),
     }
 }
 
 // An event with power off.
-fn dark(state: State, code: u8) -> Answer
+fn dark(state: State, code: u8) -> Stepped
     ensures { λ r. ⌜ r ≡ dark state code ⌝ }
 {
     if code == 11 {
-        return accept(state.vdd_rise());
+        accept(state.vdd_rise())
+    } else {
+        accept(state.silent())
     }
-    accept(state.silent())
 }
 
-// An event that passed the checks 4, 2 and 5.
-fn step(f: Figure, state: State, array: &[u8], code: u8) -> Answer
+// An event that passed the checks 4, 2 and 5. It is pure, and called at one place: a loop over events will be that place.
+fn step(f: Figure, state: State, array: &[u8], code: u8) -> Stepped
     ensures { λ r. ⌜ r ≡ step f (now (array .entry)) state code ⌝ }
 {
     if state.power {
@@ -196,12 +261,13 @@ pub fn event(state: State, array: &mut [u8], code: u64) -> Answer
     ensures { λ r. ⌜ EventPromise (now (array .entry)) state code r (now (array .exit)) ⌝ }
 {
     let refusal = checks(state, array.len(), code);
-    if refusal != 0 {
-        return refuse(refusal, state);
+    if refusal == 0 {
+        let f = figure_of(state.part as u64);
+        let stepped = step(f, state, array, code as u8);
+        let note = stepped.note;
+        store(array, note);
+        answer_of(stepped)
+    } else {
+        answer_of(refuse(refusal, state))
     }
-    let f = figure_of(state.part as u64);
-    let answer = step(f, state, array, code as u8);
-    let note = answer.note;
-    store(array, note);
-    answer
 }

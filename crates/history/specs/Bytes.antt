@@ -35,7 +35,7 @@ bytes bits = map byte (eights (length bits / 8) bits)
 
 -- "op-code bit 3 is the top bit": the address bit that the op-code holds, 0 where the part has none there
 unfoldable pub topBit : Figure → ℕ → ℕ
-topBit f code = cond (eqb (f .codes .top) 0) 0 (code / f .codes .top % 2)
+topBit f code = cond (eqb (f .top) 0) 0 (code / f .top % 2)
 
 -- bytes as one number, the upper first
 unfoldable pub number : ℕ → List Byte → ℕ
@@ -66,4 +66,4 @@ readAs f code bs Other = idles
 -- "The first eight bits are the op-code"
 unfoldable pub reading : Figure → List Byte → Reading
 reading f [] = idles
-reading f (op ∷ bs) = readAs f (op .value) bs (command (f .codes) (op .value))
+reading f (op ∷ bs) = readAs f (op .value) bs (command (f .ops) (op .value))

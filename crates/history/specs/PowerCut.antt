@@ -1,5 +1,5 @@
 -- What a power cut leaves (demand 3): the theorem. What it says is in Lines, Transfers, Bytes and History, which read the
--- list of events alone, and in Run, which runs the chip's own definition over it. How it is proved is in Laws.
+-- list of events alone, and in the chip's Run, which runs its own definition over it. How it is proved is in Laws.
 -- Assumes nothing.
 use Prim.Native.Nat.{ℕ}
 use mathlib.Core.Bool.{true}
@@ -10,10 +10,11 @@ use Rattle.parts.specs.FigureLaws.{fair}
 use Rattle.lines.specs.declared.state.State.{State}
 use Rattle.chip.specs.Event.{event}
 use Rattle.chip.specs.Power.{powerUp}
+use Rattle.chip.specs.Run.{Chip, begun, poweredUp, run}
 use Rattle.chip.specs.PowerLaws.{power-one, power-masked, power-fits, power-state}
 use Rattle.history.specs.History.{World, history}
 use Rattle.history.specs.Lines.{rest, refusal, afterAll}
-use Rattle.history.specs.Run.{Chip, begun, poweredUp, run, worldOf}
+use Rattle.history.specs.Run.{worldOf}
 use Rattle.history.specs.Laws.Moments.{Reached, reached-from, world-told, run-append, cut-leaves, refusal-as}
 use Rattle.history.specs.Laws.Place.{outside}
 use Rattle.history.specs.Laws.Step.{asleep}

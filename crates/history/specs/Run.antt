@@ -1,39 +1,6 @@
--- The chip's run over a list of events: the state threaded, the array changed by what each event wrote. It is the
--- definition that the contract of the event call cites, event after event. Assumes nothing.
-use Prim.Native.Nat.{ℕ}
-use mathlib.Core.Bool.{true}
-use mathlib.Core.List.{List, [], _∷_}
-use Rattle.lines.specs.Lines.{atRest}
-use Rattle.chip.specs.Event.{event, written}
-use Rattle.chip.specs.Power.{powerUp}
-use Rattle.lines.specs.declared.state.State.{State}
-use Rattle.chip.specs.declared.event.Answer.{Answer}
+-- What of a chip the history speaks of. Assumes nothing.
+use Rattle.chip.specs.Run.{Chip}
 use Rattle.history.specs.History.{World}
 
--- the state and the array
-pub record Chip : Type 0 where
-  pub state : State
-  pub array : List ℕ
-
-abbrev pub answered : Chip → Answer → Chip
-answered c a = record { state = a .state; array = written (a .note) (c .array) }
-
--- the power-up state, over an array
-abbrev pub poweredUp : ℕ → ℕ → List ℕ → Chip
-poweredUp part kept array = record { state = atRest part kept true; array = array }
-
--- what the power-up call gives, over the array that was lent to it
-abbrev pub begun : ℕ → ℕ → List ℕ → Chip
-begun part kept array = record { state = powerUp part kept array .state; array = array }
-
--- what of it the history speaks of
 abbrev pub worldOf : Chip → World
 worldOf c = record { latch = c .state .latch; kept = c .state .kept; array = c .array }
-
--- one event; a refused one changes nothing, as its answer says
-unfoldable pub next : Chip → ℕ → Chip
-next c code = answered c (event (c .array) (c .state) code)
-
-unfoldable pub run : Chip → List ℕ → Chip
-run c [] = c
-run c (code ∷ codes) = run (next c code) codes

@@ -106,7 +106,7 @@ sckRise f s = cond (holdHigh (s .hold)) (rose s (rise f (seenBy s) (s .stage))) 
 
 -- "Output moves on a seen fall of SCK"
 abbrev pub shown : Figure → List ℕ → State → Stage
-shown f xs s = fall f xs (statusByte (s .kept) (s .latch)) (s .stage)
+shown f xs s = fall f xs (statusByte f (s .kept) (s .latch)) (s .stage)
 
 unfoldable pub sckFall : Figure → List ℕ → State → Moved
 sckFall f xs s =
@@ -120,13 +120,18 @@ holdFall s = silent (withHold s (cond (csLevel s) LowCsHigh LowCsLow))
 unfoldable pub holdRise : State → Moved
 holdRise s = silent (withHold s High)
 
--- SI and /WP have a level and no more: one rule for both edges. "Its level is followed at all times with power on,
--- during hold too."
-abbrev pub siTo : State → Bool → Moved
-siTo s level = silent (withSi s level)
+-- SI and /WP have a level and no more. "Its level is followed at all times with power on, during hold too."
+abbrev pub siRise : State → Moved
+siRise s = silent (withSi s true)
 
-abbrev pub wpTo : State → Bool → Moved
-wpTo s level = silent (withWp s level)
+abbrev pub siFall : State → Moved
+siFall s = silent (withSi s false)
+
+abbrev pub wpRise : State → Moved
+wpRise s = silent (withWp s true)
+
+abbrev pub wpFall : State → Moved
+wpFall s = silent (withWp s false)
 
 -- "Event 10 with power on gives the note power lost and the off state"
 abbrev pub vddFall : State → Moved

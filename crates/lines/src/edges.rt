@@ -1,7 +1,7 @@
 // The pins' edges, each a method that hands back the next state with the note. The edges of /CS and SCK build what they
 // hand back in place, and not by `silent`: time it before you change that (docs/SPEED.md).
 ghost use mathlib.Core.Path.{_≡_};
-ghost use Rattle.lines.specs.Edges.{silent, csFall, csRise, sckRise, sckFall, siTo, holdFall, holdRise, wpTo, vddFall, vddRise};
+ghost use Rattle.lines.specs.Edges.{silent, csFall, csRise, sckRise, sckFall, siRise, siFall, holdFall, holdRise, wpRise, wpFall, vddFall, vddRise};
 use crate::hold::Hold;
 use crate::hold::hold_high;
 use crate::state::Moved;
@@ -67,18 +67,19 @@ impl State {
                     stage: Stage::Closed,
                     ..self
                 };
-                return Moved {
+                Moved {
                     state,
                     note: Note::Latch(false),
+                }
+            } else {
+                let state = State {
+                    stage: Stage::Closed,
+                    ..self
                 };
-            }
-            let state = State {
-                stage: Stage::Closed,
-                ..self
-            };
-            Moved {
-                state,
-                note: Note::Nothing,
+                Moved {
+                    state,
+                    note: Note::Nothing,
+                }
             }
         } else {
             let state = State {
@@ -132,7 +133,7 @@ impl State {
         let hold = self.hold;
         let stage = self.stage;
         if hold_high(hold) {
-            let status = status_byte(self.kept, self.latch);
+            let status = status_byte(f, self.kept, self.latch);
             let next = fall(f, array, status, stage);
             let state = State {
                 sck: false,
@@ -152,11 +153,18 @@ impl State {
         }
     }
 
-    // SI has a level and no more: one method for both edges.
-    pub fn si_to(self, level: bool) -> Moved
-        ensures { λ r. ⌜ r ≡ siTo self level ⌝ }
+    // SI has a level and no more.
+    pub fn si_rise(self) -> Moved
+        ensures { λ r. ⌜ r ≡ siRise self ⌝ }
     {
-        let state = State { si: level, ..self };
+        let state = State { si: true, ..self };
+        state.silent()
+    }
+
+    pub fn si_fall(self) -> Moved
+        ensures { λ r. ⌜ r ≡ siFall self ⌝ }
+    {
+        let state = State { si: false, ..self };
         state.silent()
     }
 
@@ -169,13 +177,14 @@ impl State {
                 hold: Hold::LowCsHigh,
                 ..self
             };
-            return state.silent();
+            state.silent()
+        } else {
+            let state = State {
+                hold: Hold::LowCsLow,
+                ..self
+            };
+            state.silent()
         }
-        let state = State {
-            hold: Hold::LowCsLow,
-            ..self
-        };
-        state.silent()
     }
 
     pub fn hold_rise(self) -> Moved
@@ -188,11 +197,18 @@ impl State {
         state.silent()
     }
 
-    // /WP has a level and no more: one method for both edges.
-    pub fn wp_to(self, level: bool) -> Moved
-        ensures { λ r. ⌜ r ≡ wpTo self level ⌝ }
+    // /WP has a level and no more.
+    pub fn wp_rise(self) -> Moved
+        ensures { λ r. ⌜ r ≡ wpRise self ⌝ }
     {
-        let state = State { wp: level, ..self };
+        let state = State { wp: true, ..self };
+        state.silent()
+    }
+
+    pub fn wp_fall(self) -> Moved
+        ensures { λ r. ⌜ r ≡ wpFall self ⌝ }
+    {
+        let state = State { wp: false, ..self };
         state.silent()
     }
 

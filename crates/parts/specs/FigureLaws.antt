@@ -29,7 +29,7 @@ pub record Fair (f : Figure) : Type 0 where
   -- the upper address bits are the lowest so many of their byte
   pub bits : ℕ
   pub low : f .upper ≡ 2 ^ bits - 1
-  pub header : Header (f .«address_bytes») (f .codes .top)
+  pub header : Header (f .«address_bytes») (f .top)
   -- "the upper quarter", "the upper half"
   pub quarter : f .quarter ≡ f .size - f .size / 4
   pub half : f .half ≡ f .size - f .size / 2

@@ -1,16 +1,32 @@
 -- "Three SPI F-RAM parts by Ramtron, seen at their pins": the table of document 01. Assumes nothing.
--- What a row says: size, the array's bytes; kept, the status bits that are kept; address_bytes, how many follow the
--- op-code; upper, the upper address bits that are not ignored; codes, the op-codes, and in top the bit of READ's and
--- WRITE's that is the top address bit, 0 for none; guards_array, whether /WP low holds back the array; enable, the kept
--- bit (WPEN) that must be set for /WP low to hold back the status byte, 0 where none need be; quarter and half, where the
--- upper quarter and the upper half begin.
+-- What a row says: size, the array's bytes; kept, the status bits that are kept; latch, the status bit that shows the
+-- latch; address_bytes, how many follow the op-code; upper, the upper address bits that are not ignored; top, the bit of
+-- READ's and WRITE's op-code that is the top address bit, 0 for none; guards_array, whether /WP low holds back the array;
+-- enable, the kept bit (WPEN) that must be set for /WP low to hold back the status byte, 0 where none need be; bp0 and
+-- bp1, the block bits BP0 and BP1; quarter and half, where the upper quarter and the upper half begin; ops, the op-codes
+-- with their commands.
 use Prim.Native.Nat.{ℕ}
 use mathlib.Core.Bool.{Bool, true, false, _&&_}
 use mathlib.Core.List.{List, [], _∷_}
-use lib.ListN.{getD, length}
+use lib.ListN.{getD, length, replicate}
 use lib.Bits.{bitAnd}
 use lib.Dec.{eqb, ltb}
+use Rattle.parts.specs.declared.commands.Op.{Op}
+use Rattle.parts.specs.declared.commands.Command.the-variants.{Wren, Wrdi, Rdsr, Wrsr, Read, Write, Other}
 use Rattle.parts.specs.declared.figures.Figure.{Figure}
+
+-- "WREN 06h, WRDI 04h, RDSR 05h, WRSR 01h", on every part
+abbrev pub common : List Op → List Op
+common ops =
+    record { code = 0x06; command = Wren }
+    ∷ record { code = 0x04; command = Wrdi }
+    ∷ record { code = 0x05; command = Rdsr }
+    ∷ record { code = 0x01; command = Wrsr }
+    ∷ ops
+
+-- room that a row does not use: an op-code that does nothing, as other op-codes do
+abbrev filler : Op
+filler = record { code = 0; command = Other }
 
 -- a number that is no part's
 abbrev pub none : Figure
@@ -18,13 +34,17 @@ none =
     record {
       size = 0;
       kept = 0;
+      latch = 0;
       «address_bytes» = 0;
       upper = 0;
-      codes = record { wren = 0; wrdi = 0; rdsr = 0; wrsr = 0; read = 0; write = 0; top = 0 };
+      top = 0;
       «guards_array» = false;
       enable = 0;
+      bp0 = 0;
+      bp1 = 0;
       quarter = 0;
       half = 0;
+      ops = replicate 8 filler;
     }
 
 -- "1 | FM25L04 | 512 | op-code bit 3 is the top bit, then one byte | 0Ch". "READ 03h and 0Bh, WRITE 02h and 0Ah, bit 3
@@ -34,13 +54,23 @@ fm25l04 =
     record {
       size = 512;
       kept = 0x0C;
+      latch = 0x02;
       «address_bytes» = 1;
       upper = 0x01;
-      codes = record { wren = 0x06; wrdi = 0x04; rdsr = 0x05; wrsr = 0x01; read = 0x03; write = 0x02; top = 0x08 };
+      top = 0x08;
       «guards_array» = true;
       enable = 0;
+      bp0 = 0x04;
+      bp1 = 0x08;
       quarter = 0x180;
       half = 0x100;
+      ops =
+          common
+          (record { code = 0x03; command = Read }
+          ∷ record { code = 0x0B; command = Read }
+          ∷ record { code = 0x02; command = Write }
+          ∷ record { code = 0x0A; command = Write }
+          ∷ []);
     }
 
 -- "2 | FM25L04B | 512 | as part 1 | 0Ch". "Parts 1 and 2 behave alike."
@@ -54,13 +84,17 @@ fm25c160 =
     record {
       size = 2048;
       kept = 0x8C;
+      latch = 0x02;
       «address_bytes» = 2;
       upper = 0x07;
-      codes = record { wren = 0x06; wrdi = 0x04; rdsr = 0x05; wrsr = 0x01; read = 0x03; write = 0x02; top = 0 };
+      top = 0;
       «guards_array» = false;
       enable = 0x80;
+      bp0 = 0x04;
+      bp1 = 0x08;
       quarter = 0x600;
       half = 0x400;
+      ops = common (record { code = 0x03; command = Read } ∷ record { code = 0x02; command = Write } ∷ filler ∷ filler ∷ []);
     }
 
 -- the rows of parts 1 to 3

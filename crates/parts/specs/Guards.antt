@@ -1,6 +1,6 @@
 -- "Who may write" (document 01). Assumes nothing.
-use Prim.Native.Nat.{ℕ, _/_, _^_}
-use mathlib.Core.Bool.{Bool, cond, not, _&&_}
+use Prim.Native.Nat.{ℕ}
+use mathlib.Core.Bool.{Bool, true, false, cond, not, _&&_}
 use lib.Dec.{eqb, leb}
 use lib.Bits.{bitAnd}
 use Rattle.parts.specs.declared.figures.Figure.{Figure}
@@ -15,17 +15,19 @@ reasonNumber LatchOff = 1
 reasonNumber Protect = 2
 reasonNumber Block = 3
 
--- bits 3 and 2 of the status byte, BP1 and BP0
-abbrev pub blocks : ℕ → ℕ
-blocks kept = bitAnd (kept / 2 ^ 2) 3
+-- a bit of the status byte is set
+abbrev pub isSet : ℕ → ℕ → Bool
+isSet kept bit = not (eqb (bitAnd kept bit) 0)
 
 -- "Blocks, by BP1 BP0: 00 none, 01 the upper quarter, 10 the upper half, 11 all." The first address that is guarded.
+abbrev pub blocksFrom : Figure → Bool → Bool → ℕ
+blocksFrom f false false = f .size
+blocksFrom f false true = f .quarter
+blocksFrom f true false = f .half
+blocksFrom f true true = 0
+
 unfoldable pub firstProtected : Figure → ℕ → ℕ
-firstProtected f kept =
-    cond (eqb (blocks kept) 0) (f .size)
-    (cond (eqb (blocks kept) 1) (f .quarter)
-    (cond (eqb (blocks kept) 2) (f .half)
-    0))
+firstProtected f kept = blocksFrom f (isSet kept (f .bp1)) (isSet kept (f .bp0))
 
 -- "The latch must be set. Parts 1 and 2: /WP low holds back the array and the status byte." And the blocks; "the
 --  lowest that applies is given".

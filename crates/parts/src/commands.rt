@@ -1,7 +1,6 @@
 // Op-codes.
 ghost use mathlib.Core.Path.{_≡_};
 ghost use Rattle.parts.specs.Commands.{command};
-use crate::figures::Codes;
 
 pub enum Command {
     Wren,
@@ -10,30 +9,30 @@ pub enum Command {
     Wrsr,
     Read,
     Write,
+    // Does nothing.
     Other,
 }
 
-// The command that an op-code names. READ and WRITE leave the top address bit out of the comparison.
-pub fn decode(codes: Codes, code: u8) -> Command
-    ensures { λ r. ⌜ r ≡ command codes code ⌝ }
+// An op-code with its command.
+pub struct Op {
+    pub code: u8,
+    pub command: Command,
+}
+
+// How many op-codes a row has room for; the rest is filled with ones that do nothing.
+pub const OPS: usize = 8;
+
+// The command that an op-code names, by a part's list.
+pub fn decode(ops: [Op; OPS], code: u8) -> Command
+    ensures { λ r. ⌜ r ≡ command ops code ⌝ }
 {
-    if code == codes.wren {
-        return Command::Wren;
-    }
-    if code == codes.wrdi {
-        return Command::Wrdi;
-    }
-    if code == codes.rdsr {
-        return Command::Rdsr;
-    }
-    if code == codes.wrsr {
-        return Command::Wrsr;
-    }
-    if code | codes.top == codes.read | codes.top {
-        return Command::Read;
-    }
-    if code | codes.top == codes.write | codes.top {
-        return Command::Write;
+    let mut i = 0;
+    while i < OPS {
+        let op = ops[i];
+        if code == op.code {
+            return op.command;
+        }
+        i += 1;
     }
     Command::Other
 }

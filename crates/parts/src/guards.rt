@@ -18,12 +18,12 @@ pub enum Verdict {
 pub fn first_protected(f: Figure, kept: u8) -> usize
     ensures { λ r. ⌜ r ≡ firstProtected f kept ⌝ }
 {
-    let blocks = (kept >> 2) & 3;
-    match blocks {
-        0 => f.size,
-        1 => f.quarter,
-        2 => f.half,
-        _ => 0,
+    let high = kept & f.bp1 != 0;
+    let low = kept & f.bp0 != 0;
+    if high {
+        if low { 0 } else { f.half }
+    } else {
+        if low { f.quarter } else { f.size }
     }
 }
 

@@ -20,8 +20,8 @@ use Rattle.stages.specs.declared.stage.Stage.the-variants.{Closed, Code, Upper,
 
 -- "Status byte: bit 7 WPEN (part 3; 0 on parts 1 and 2), bits 3 and 2 BP1 and BP0, bit 1 the latch, the rest 0."
 -- The kept bits lie under the part's mask, so the rest is 0.
-abbrev pub statusByte : ℕ → Bool → ℕ
-statusByte kept latch = cond latch (bitOr kept 2) kept
+abbrev pub statusByte : Figure → ℕ → Bool → ℕ
+statusByte f kept latch = cond latch (bitOr kept (f .latch)) kept
 
 -- "READ shows the byte at the address, each bit from the array as lent at its fall"
 unfoldable pub showArray : List ℕ → ℕ → ℕ → Stage

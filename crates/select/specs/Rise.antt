@@ -45,7 +45,7 @@ begun f seen code Other = quiet seen (Over Quiet)
 
 -- "The first eight bits are the op-code"
 unfoldable pub opened : Figure → Seen → ℕ → Risen
-opened f seen code = begun f seen code (command (f .codes) code)
+opened f seen code = begun f seen code (command (f .ops) code)
 
 abbrev pub codeTaken : Figure → Seen → Taken → Risen
 codeTaken f seen (Part more) = quiet seen (Code more)

@@ -52,7 +52,7 @@ module _ (f : Figure) (fair : Fair f) where
   code-masked : (seen : Seen) (t : Taken) → codeTaken f seen t .kept ≡ seen .kept
   unfolding opened
   code-masked seen (Part more) = refl
-  code-masked seen (Whole code) = begun-masked seen code (command (f .codes) code)
+  code-masked seen (Whole code) = begun-masked seen code (command (f .ops) code)
 
   upper-masked : (seen : Seen) (purpose : Purpose) (t : Taken) → upperTaken f seen purpose t .kept ≡ seen .kept
   upper-masked seen purpose (Part more) = refl
@@ -98,7 +98,7 @@ module _ (f : Figure) (fair : Fair f) where
   code-sound : (seen : Seen) (t : Taken) → SoundTaken t → soundStage f (codeTaken f seen t .stage) ≡ true
   unfolding soundStage opened
   code-sound seen (Part more) h = h
-  code-sound seen (Whole code) h = begun-sound seen code (command (f .codes) code)
+  code-sound seen (Whole code) h = begun-sound seen code (command (f .ops) code)
 
   upper-sound : (seen : Seen) (purpose : Purpose) (t : Taken) → eqb (f .«address_bytes») 2 ≡ true → SoundTaken t
       → soundStage f (upperTaken f seen purpose t .stage) ≡ true

@@ -12,10 +12,10 @@ use stages::stage::Stage;
 use stages::stage::What;
 
 // The status byte that RDSR shows.
-pub fn status_byte(kept: u8, latch: bool) -> u8
-    ensures { λ r. ⌜ r ≡ statusByte kept latch ⌝ }
+pub fn status_byte(f: Figure, kept: u8, latch: bool) -> u8
+    ensures { λ r. ⌜ r ≡ statusByte f kept latch ⌝ }
 {
-    if latch { kept | 0x02 } else { kept }
+    if latch { kept | f.latch } else { kept }
 }
 
 // The byte at an address, as the array is lent to this call; past its end 0.

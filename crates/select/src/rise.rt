@@ -53,8 +53,8 @@ fn to_stage(seen: Seen, stage: Stage) -> Risen
 fn open(f: Figure, seen: Seen, code: u8) -> Risen
     ensures { λ r. ⌜ r ≡ opened f seen code ⌝ }
 {
-    let codes = f.codes;
-    let command = decode(codes, code);
+    let ops = f.ops;
+    let command = decode(ops, code);
     match command {
         Command::Wren => Risen {
             stage: Stage::Over { end: End::Quiet },

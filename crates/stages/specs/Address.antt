@@ -14,7 +14,7 @@ use Rattle.stages.specs.declared.stage.Came.the-variants.{NoByte}
 
 -- "bit 3 being A8"
 abbrev pub codePage : Figure → ℕ → ℕ
-codePage f code = cond (eqb (bitAnd code (f .codes .top)) 0) 0 1
+codePage f code = cond (eqb (bitAnd code (f .top)) 0) 0 1
 
 -- "upper five bits ignored"
 abbrev pub upperPage : Figure → ℕ → ℕ

@@ -69,7 +69,7 @@ module _ (f : Figure) (fair : Fair f) where
   within p = rw (fair .pages) (omega (arith, p))
 
   code-page : (code : ℕ) → codePage f code ≤ f .upper
-  code-page code = go (eqb (bitAnd code (f .codes .top)) 0)
+  code-page code = go (eqb (bitAnd code (f .top)) 0)
     where
       go : (t : Bool) → cond t 0 1 ≤ f .upper
       go true = zero-le

@@ -19,7 +19,7 @@ pub fn widen(x: u8) -> u32
 fn code_page(f: Figure, code: u8) -> u32
     ensures { λ r. ⌜ r ≡ codePage f code ⌝ }
 {
-    if code & f.codes.top == 0 { 0 } else { 1 }
+    if code & f.top == 0 { 0 } else { 1 }
 }
 
 // The stage after the op-code of a READ or WRITE.

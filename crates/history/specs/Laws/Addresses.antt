@@ -66,7 +66,7 @@ module _ (f : Figure) (fair : Fair f) where
 
   -- the address by page and byte is the address as one number
   pub start-one :
-      (code : ℕ) (b : Byte) (k : ℕ) → f .codes .top ≡ 2 ^ k → b .value < 256
+      (code : ℕ) (b : Byte) (k : ℕ) → f .top ≡ 2 ^ k → b .value < 256
       → codePage f code * 256 + b .value ≡ (number (topBit f code) (b ∷ []) % f .size + 0) % f .size
   unfolding topBit number
   start-one code b k t h =
@@ -80,7 +80,7 @@ module _ (f : Figure) (fair : Fair f) where
       below = rw (fair .pages) (omega (arith, fair .top))
 
   pub start-two :
-      (code : ℕ) (u b : Byte) → f .codes .top ≡ 0 → b .value < 256
+      (code : ℕ) (u b : Byte) → f .top ≡ 0 → b .value < 256
       → upperPage f (u .value) * 256 + b .value ≡ (number (topBit f code) (u ∷ b ∷ []) % f .size + 0) % f .size
   unfolding topBit number
   start-two code u b t h =

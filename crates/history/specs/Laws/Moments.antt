@@ -5,18 +5,17 @@ use native.Mathlib.Omega.{arith}
 use mathlib.Core.Bool.{Bool, true, false, cond, not}
 use mathlib.Core.List.{List, [], _∷_, _++_}
 use mathlib.Core.Path.{_≡_, refl, sym, ap, _∙_}
-use lib.ListN.{length, length-set}
+use lib.ListN.{length}
 use lib.Dec.{eqb, leb}
 use borrow.Author.Tests.{leb-true, eq-eqb, ne-eqb}
 use Rattle.parts.specs.FigureLaws.{Fair, fair}
 use Rattle.parts.specs.Figures.{figureOf, isPart, inMask}
-use Rattle.select.specs.declared.notes.Note.{Note}
-use Rattle.select.specs.declared.notes.Note.the-variants.{Nothing, Latch, Stored, HeldBack, KeptSet, KeptHeldBack, PowerLost}
 use Rattle.lines.specs.Lines.{atRest}
 use Rattle.chip.specs.Event as chip
 use Rattle.chip.specs.EventLaws.{event-steps, checks-none}
-use Rattle.chip.specs.Event.{checks, event, step, live, written}
-use Rattle.chip.specs.SoundLaws.{event-sound}
+use Rattle.chip.specs.Event.{answerOf, checks, event, step, live, written}
+use Rattle.chip.specs.Run.{Chip, poweredUp, answered, next, run}
+use Rattle.chip.specs.RunLaws.{next-length, next-sound}
 use Rattle.lines.specs.SoundLaws.{rest-sound}
 use Rattle.lines.specs.Sound.{sound}
 use Rattle.lines.specs.declared.hold.Hold.the-variants.{High}
@@ -25,28 +24,17 @@ use Rattle.lines.specs.declared.state.State.{State}
 use Rattle.chip.specs.declared.event.Answer.{Answer}
 use Rattle.history.specs.Lines.{Lines, rest, refusal, after, afterAll, act, acts, passes}
 use Rattle.history.specs.History.{World, history}
-use Rattle.history.specs.Run.{Chip, poweredUp, answered, next, run, worldOf}
+use Rattle.history.specs.Run.{worldOf}
 use Rattle.history.specs.Laws.Place.{Place, outside, worldAt, placed, base, from, from-now, from-next}
 use Rattle.history.specs.Laws.Select.{closed, select-world}
 use Rattle.history.specs.Laws.Step.{Agrees, off, on, asleep, offChip, Onward, follows, refuses}
 
--- what an event writes keeps the array's length
-written-length : (note : Note) (xs : List ℕ) → length (written note xs) ≡ length xs
-unfolding written
-written-length Nothing xs = refl
-written-length (Latch level) xs = refl
-written-length (Stored at byte) xs = length-set xs at byte
-written-length (HeldBack at reason) xs = refl
-written-length (KeptSet kept) xs = refl
-written-length (KeptHeldBack reason) xs = refl
-written-length PowerLost xs = refl
-
 -- an event that the checks let through, and one that they don't know
 module _ (xs : List ℕ) (s : State) (good : sound s ≡ true) (fits : length xs ≡ figureOf (s .part) .size) (code : ℕ) where
-  event-step : leb 12 code ≡ false → event xs s code ≡ step (figureOf (s .part)) xs s code
+  event-step : leb 12 code ≡ false → event xs s code ≡ answerOf (step (figureOf (s .part)) xs s code)
   event-step e = event-steps xs s code (eq-eqb _ _ (checks-none xs s code good (eq-eqb _ _ fits) e))
 
-  event-unknown : leb 12 code ≡ true → event xs s code ≡ chip.refused 5 s
+  event-unknown : leb 12 code ≡ true → event xs s code ≡ answerOf (chip.refused 5 s)
   unfolding event checks
   event-unknown e = rw (good, eq-eqb _ _ fits, e)
 
@@ -100,10 +88,10 @@ module _ (part : ℕ) (fair : Fair (figureOf part)) {l : Lines} {p : Place} {w :
 
   pub next-steps :
       (code : ℕ) → leb 12 code ≡ false
-      → next c code ≡ answered c (step (figureOf part) (c .array) (c .state) code)
+      → next c code ≡ answered c (answerOf (step (figureOf part) (c .array) (c .state) code))
   unfolding next
   next-steps code e =
-      ap (answered c) (event-step (c .array) (c .state) (m .good) own code e ∙ steps-own (m .agrees) code)
+      ap (answered c) (event-step (c .array) (c .state) (m .good) own code e ∙ ap answerOf (steps-own (m .agrees) code))
 
   next-stays : (code : ℕ) → leb 12 code ≡ true → next c code ≡ c
   unfolding next written
@@ -130,12 +118,11 @@ module _ (part : ℕ) (fair : Fair (figureOf part)) {l : Lines} {p : Place} {w :
   pub moment-next :
       (code : ℕ)
       → Moment part (after l code) (placed p (act l code)) (base (figureOf part) w p (act l code)) (next c code)
-  unfolding next
   moment-next code =
       record {
         agrees = agrees-next code;
-        good = event-sound (c .state) (m .good) (c .array) code;
-        fits = written-length (event (c .array) (c .state) code .note) (c .array) ∙ m .fits;
+        good = next-sound c code (m .good);
+        fits = next-length c code ∙ m .fits;
       }
 
 -- where a run leads
@@ -185,7 +172,7 @@ run-append c (code ∷ codes) more = run-append (next c code) codes more
 
 -- the cut and the return of power
 cut-dark : {part : ℕ} {l : Lines} {p : Place} {w : World} {c : Chip} → Agrees part l p w c
-    → answered c (step (figureOf part) (c .array) (c .state) 10) ≡ offChip part (c .state .kept) (c .array)
+    → answered c (answerOf (step (figureOf part) (c .array) (c .state) 10)) ≡ offChip part (c .state .kept) (c .array)
 unfolding step live written
 cut-dark (off kept array) = refl
 cut-dark (on p w v sck si wp hold stage s) = refl
@@ -195,5 +182,5 @@ pub cut-leaves : (part : ℕ) → Fair (figureOf part) → {l : Lines} {p : Plac
 unfolding run step written
 cut-leaves part fair {c = c} m =
     next-steps part fair (moment-next part fair m 10) 11 refl
-    ∙ ap (λ (d : Chip). answered d (step (figureOf part) (d .array) (d .state) 11))
+    ∙ ap (λ (d : Chip). answered d (answerOf (step (figureOf part) (d .array) (d .state) 11)))
     (next-steps part fair m 10 refl ∙ cut-dark (m .agrees))

@@ -91,7 +91,7 @@ module _ (f : Figure) (v : World) (sh more : ℕ) (wp si : Bool) (t : takeBit sh
   pub part-rise : (bs : List Byte) → rising f v wp si (stageOf f sh bs) ≡ painted (stageOf f more bs) v
   unfolding rise stageOf codeRise settle written
   part-rise [] = rw t
-  part-rise (op ∷ bs) = part-as (op .value) bs (command (f .codes) (op .value))
+  part-rise (op ∷ bs) = part-as (op .value) bs (command (f .ops) (op .value))
 
 -- one data byte more
 one-more : (bs : List Byte) (b : Byte) → came (bs ++ b ∷ []) ≡ Bytes
@@ -136,7 +136,7 @@ module _ (f : Figure) (fair : Fair f) (w : World) (sh : ℕ) (si : Bool)
       at = (start + length bs) % f .size
 
   memory-whole :
-      (purpose : Purpose) (two : Bool) → Top (f .codes .top) two → (code : ℕ) (bs : List Byte)
+      (purpose : Purpose) (two : Bool) → Top (f .top) two → (code : ℕ) (bs : List Byte)
       → rising f (worldIn f w purpose (progress f two code bs)) (b .wp) si (stageIn f sh purpose (progress f two code bs))
       ≡ painted (stageIn f fresh purpose (progress f two code (bs ++ b ∷ [])))
       (worldIn f w purpose (progress f two code (bs ++ b ∷ [])))
@@ -202,5 +202,5 @@ module _ (f : Figure) (fair : Fair f) (w : World) (sh : ℕ) (si : Bool)
       → rising f (effect f w (reading f bs)) (b .wp) si (stageOf f sh bs)
       ≡ painted (stageOf f fresh (bs ++ b ∷ [])) (effect f w (reading f (bs ++ b ∷ [])))
   unfolding rise stageOf reading effect codeRise opened
-  whole-rise [] = rw t (whole-op (command (f .codes) (b .value)))
-  whole-rise (op ∷ bs) = whole-as (op .value) bs (command (f .codes) (op .value))
+  whole-rise [] = rw t (whole-op (command (f .ops) (b .value)))
+  whole-rise (op ∷ bs) = whole-as (op .value) bs (command (f .ops) (op .value))

@@ -125,7 +125,7 @@ worldIn f w ToWrite (past start bs) = overlay f start 0 w bs
 worldIn f w ToRead p = w
 
 pub world-write :
-    (f : Figure) (w : World) (code : ℕ) (bs : List Byte) → Header (f .«address_bytes») (f .codes .top)
+    (f : Figure) (w : World) (code : ℕ) (bs : List Byte) → Header (f .«address_bytes») (f .top)
     → worldIn f w ToWrite (progress f (twoBytes f) code bs) ≡ effect f w (readAs f code bs Write)
 unfolding worldIn progress effect overlay readAs address topBit
 world-write f w code [] (one k n t) = rw n
@@ -146,7 +146,7 @@ stageAs f sh code bs Other = Over Quiet
 
 unfoldable pub stageOf : Figure → ℕ → List Byte → Stage
 stageOf f sh [] = Code sh
-stageOf f sh (op ∷ bs) = stageAs f sh (op .value) bs (command (f .codes) (op .value))
+stageOf f sh (op ∷ bs) = stageAs f sh (op .value) bs (command (f .ops) (op .value))
 
 -- the image is an open select's
 open-in : (f : Figure) (sh : ℕ) (purpose : Purpose) (p : Progress) → close.isClosed (stageIn f sh purpose p) ≡ false
@@ -170,7 +170,7 @@ open-as f sh code bs Other = refl
 open-of : (f : Figure) (sh : ℕ) (bs : List Byte) → close.isClosed (stageOf f sh bs) ≡ false
 unfolding stageOf
 open-of f sh [] = refl
-open-of f sh (op ∷ bs) = open-as f sh (op .value) bs (command (f .codes) (op .value))
+open-of f sh (op ∷ bs) = open-as f sh (op .value) bs (command (f .ops) (op .value))
 
 pub open-stage : (f : Figure) (sh : ℕ) (bs : List Byte) (stage : Stage) → settle stage ≡ stageOf f sh bs → close.isClosed stage ≡ false
 open-stage f sh bs stage e = sym (settle-closed stage) ∙ ap close.isClosed e ∙ open-of f sh bs
@@ -182,7 +182,7 @@ drops-came [] = refl
 drops-came (b ∷ bs) = refl
 
 drops-write :
-    (f : Figure) (sh : ℕ) (code : ℕ) (bs : List Byte) → Header (f .«address_bytes») (f .codes .top)
+    (f : Figure) (sh : ℕ) (code : ℕ) (bs : List Byte) → Header (f .«address_bytes») (f .top)
     → close.drops (stageIn f sh ToWrite (progress f (twoBytes f) code bs)) ≡ atLeastOne (drop (f .«address_bytes») bs)
 unfolding stageIn progress atLeastOne
 drops-write f sh code [] (one k n t) = rw n
@@ -198,7 +198,7 @@ drops-read f sh (lower page) = refl
 drops-read f sh (past start bs) = refl
 
 drops-as :
-    (f : Figure) (sh : ℕ) (code : ℕ) (bs : List Byte) → Header (f .«address_bytes») (f .codes .top) → (c : Command)
+    (f : Figure) (sh : ℕ) (code : ℕ) (bs : List Byte) → Header (f .«address_bytes») (f .top) → (c : Command)
     → close.drops (stageAs f sh code bs c) ≡ drops (readAs f code bs c)
 unfolding stageAs readAs drops atLeastOne
 drops-as f sh code bs h Wren = refl
@@ -211,13 +211,13 @@ drops-as f sh code bs h Write = drops-write f sh code bs h
 drops-as f sh code bs h Other = refl
 
 drops-of :
-    (f : Figure) (sh : ℕ) (bs : List Byte) → Header (f .«address_bytes») (f .codes .top)
+    (f : Figure) (sh : ℕ) (bs : List Byte) → Header (f .«address_bytes») (f .top)
     → close.drops (stageOf f sh bs) ≡ drops (reading f bs)
 unfolding stageOf reading drops
 drops-of f sh [] h = refl
-drops-of f sh (op ∷ bs) h = drops-as f sh (op .value) bs h (command (f .codes) (op .value))
+drops-of f sh (op ∷ bs) h = drops-as f sh (op .value) bs h (command (f .ops) (op .value))
 
 pub drops-stage :
-    (f : Figure) (sh : ℕ) (bs : List Byte) (stage : Stage) → Header (f .«address_bytes») (f .codes .top)
+    (f : Figure) (sh : ℕ) (bs : List Byte) (stage : Stage) → Header (f .«address_bytes») (f .top)
     → settle stage ≡ stageOf f sh bs → close.drops stage ≡ drops (reading f bs)
 drops-stage f sh bs stage h e = sym (settle-drops stage) ∙ ap close.drops e ∙ drops-of f sh bs h

@@ -17,12 +17,12 @@ use Rattle.stages.specs.declared.stage.Stage.{Stage}
 use Rattle.stages.specs.declared.stage.Stage.the-variants.{Closed}
 use Rattle.lines.specs.Lines.{atRest, holdHigh}
 use Rattle.lines.specs.Edges.{silent, csFall, csRise, sckRise, sckFall, holdFall, holdRise}
-use Rattle.chip.specs.Event.{accepted, csStayed, live, step, written}
+use Rattle.chip.specs.Event.{accepted, answerOf, csStayed, live, step, written}
+use Rattle.chip.specs.Run.{Chip, answered}
 use Rattle.lines.specs.declared.hold.Hold.{Hold}
 use Rattle.lines.specs.declared.hold.Hold.the-variants.{High, LowCsLow, LowCsHigh}
 use Rattle.history.specs.Lines.{Lines, rest, put, refusal, after, act}
 use Rattle.history.specs.History.{World}
-use Rattle.history.specs.Run.{Chip, answered}
 use Rattle.history.specs.Laws.Place.{Place, outside, inside, isOutside, worldAt, placed, base}
 use Rattle.history.specs.Laws.Select.{Selected, closed, going, select-open, select-world, select-fall, select-fresh, select-rise, select-close}
 
@@ -98,7 +98,7 @@ each P (suc n) k code ps l h = go (eqb k code) refl (λ m. each P n (suc k) code
 module _ (part : ℕ) (fair : Fair (figureOf part)) where
   -- the step leads on
   abbrev Follows : Lines → Place → World → Chip → ℕ → Type 0
-  Follows l p w c code = Onward part l p w code (answered c (step (figureOf part) (c .array) (c .state) code))
+  Follows l p w c code = Onward part l p w code (answered c (answerOf (step (figureOf part) (c .array) (c .state) code)))
 
   module _ (w : World) (si wp : Bool) where
     -- it agrees after this event, whatever the levels of SCK and /HOLD and whatever select is open
@@ -124,7 +124,8 @@ module _ (part : ℕ) (fair : Fair (figureOf part)) where
         (sck latch d : Bool) (kept : ℕ) (array : List ℕ)
         → Agrees part (linesOf sck si wp High true) outside
         (cond d (asleep kept array) (record { latch = latch; kept = kept; array = array }))
-        (answered (shut sck latch kept array) (accepted (cond (latch && d) (record { state = shut sck false kept array .state; note = Latch false }) (silent (shut sck latch kept array .state)))))
+        (answered (shut sck latch kept array)
+        (answerOf (accepted (cond (latch && d) (record { state = shut sck false kept array .state; note = Latch false }) (silent (shut sck latch kept array .state))))))
     unfolding written
     closing sck true true kept array = on outside _ _ sck si wp High Closed closed
     closing sck true false kept array = on outside _ _ sck si wp High Closed closed
@@ -144,7 +145,7 @@ module _ (part : ℕ) (fair : Fair (figureOf part)) where
     sck-low : After 2
     unfolding after refusal put act placed base step live sckFall written
     sck-low true High p v stage s =
-        on p w v false si wp High _ (select-fall (figureOf part) w (v .array) (statusByte (v .kept) (v .latch)) s)
+        on p w v false si wp High _ (select-fall (figureOf part) w (v .array) (statusByte (figureOf part) (v .kept) (v .latch)) s)
     sck-low true LowCsLow p v stage s = on p w v false si wp LowCsLow stage s
     sck-low true LowCsHigh p v stage s = on p w v false si wp LowCsHigh stage s
     sck-low false hold p v stage s = on p w v false si wp hold stage s

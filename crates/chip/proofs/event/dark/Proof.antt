@@ -1,5 +1,5 @@
 -- Power returns at 11; nothing else is heard.
-use borrow.Author.Tests.{eq-eqb, ne-eqb}
+use borrow.Author.Tests.{ne-eqb}
 use borrow.Author.Needs.{needs}
 use Rattle.chip.proofs.event.dark.Statement.{statement}
 use Rattle.chip.proofs.event.dark.Tie as tie
@@ -10,14 +10,14 @@ vdd-rise-requires c κs = search needs
 accept-requires : tie.Need-accept-requires
 accept-requires c κs = search needs
 
-returns : tie.Need-returns
-returns c = simp (c .accept .ensures, c .before .vdd-rise .ensures, eq-eqb _ _ (c .before .before .if1 .taken))
-
 silent-requires : tie.Need-silent-requires
 silent-requires c κs = search needs
 
 accept-requires-2 : tie.Need-accept-requires-2
 accept-requires-2 c κs = search needs
+
+returns : tie.Need-returns
+returns c = simp (c .accept .ensures, c .before .vdd-rise .ensures, c .before .before .if1 .taken)
 
 returns-2 : tie.Need-returns-2
 returns-2 c = simp (c .accept2 .ensures, c .before .silent .ensures, ne-eqb _ _ (c .before .before .if1 .left))
@@ -28,7 +28,7 @@ dark-spec =
     (tie.spec
     vdd-rise-requires
     accept-requires
-    returns
     silent-requires
     accept-requires-2
+    returns
     returns-2)

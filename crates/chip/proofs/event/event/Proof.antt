@@ -1,8 +1,9 @@
 -- Refused: the answer is the refusal and nothing is stored. Else the step's answer, and the byte that its note stores.
-use mathlib.Core.Path.{sym, _∙_}
+use mathlib.Core.Path.{sym, ap, _∙_}
 use native.Mathlib.Nat.{lt-of-lt-of-le}
 use lib.Dec.{lit≤}
-use Rattle.chip.specs.EventLaws.{checks-passed}
+use Rattle.chip.specs.EventLaws.{passed, stopped, checks-passed}
+use Rattle.chip.specs.Answers.{paper}
 use Rattle.chip.specs.Event.{event, written}
 use borrow.Author.Tests.{ne-eqb}
 use borrow.Author.Needs.{needs}
@@ -12,13 +13,6 @@ use Rattle.chip.proofs.event.event.Tie as tie
 checks-requires : tie.Need-checks-requires
 checks-requires c κs = search needs
 
-refuse-requires : tie.Need-refuse-requires
-refuse-requires c κs = search needs
-
-returns : tie.Need-returns
-unfolding event written
-returns c = (simp (c .refuse .ensures, ← c .before .before .checks .ensures, ne-eqb _ _ (c .before .if1 .taken)), simp (← c .before .before .checks .ensures, ne-eqb _ _ (c .before .if1 .taken)))
-
 cast-figure-of : tie.Need-cast-figure-of
 cast-figure-of c = search needs
 
@@ -27,7 +21,7 @@ figure-of-requires c κs = search needs
 
 cast-step : tie.Need-cast-step
 cast-step c =
-    record { fits = lt-of-lt-of-le (checks-passed _ _ _ (sym (c .before .before .before .before .checks .ensures) ∙ c .before .before .before .if1 .left) .2) (lit≤ tt) }
+    record { fits = lt-of-lt-of-le (checks-passed _ _ _ (sym (c .before .before .before .before .checks .ensures) ∙ c .before .before .before .if1 .taken) .2) (lit≤ tt) }
 
 step-requires : tie.Need-step-requires
 step-requires c κs = search needs
@@ -35,24 +29,49 @@ step-requires c κs = search needs
 store-requires : tie.Need-store-requires
 store-requires c κs = search needs
 
+answer-of-requires : tie.Need-answer-of-requires
+answer-of-requires c κs = search needs
+
+refuse-requires : tie.Need-refuse-requires
+refuse-requires c κs = search needs
+
+answer-of-requires-2 : tie.Need-answer-of-requires-2
+answer-of-requires-2 c κs = search needs
+
 same-length : tie.Need-same-length
 same-length c = search needs
 
+returns : tie.Need-returns
+unfolding event written
+returns c = (
+  ap paper
+      (passed (c .before .before .before .before .before .before .before .before .before .before .before .before .args .array .now) (c .before .before .before .before .before .before .before .before .before .before .before .before .args .state) (c .before .before .before .before .before .before .before .before .before .before .before .before .args .code)
+      (c .answer-of .ensures) (c .before .before .before .before .before .step .ensures) (c .before .before .before .before .before .before .before .figure-of .ensures) (c .before .before .before .before .before .before .before .before .before .before .checks .ensures) (c .before .before .before .before .before .before .before .before .before .if1 .taken)),
+  simp (c .answer-of .ensures, c .before .before .before .store .ensures, c .before .before .before .before .before .step .ensures, c .before .before .before .before .before .before .before .figure-of .ensures, ← c .before .before .before .before .before .before .before .before .before .before .checks .ensures, c .before .before .before .before .before .before .before .before .before .if1 .taken),
+)
+
 returns-2 : tie.Need-returns-2
 unfolding event written
-returns-2 c = (simp (c .before .before .before .before .step .ensures, c .before .before .before .before .before .before .figure-of .ensures, ← c .before .before .before .before .before .before .before .before .before .checks .ensures, c .before .before .before .before .before .before .before .before .if1 .left), simp (c .before .before .store .ensures, c .before .before .before .before .step .ensures, c .before .before .before .before .before .before .figure-of .ensures, ← c .before .before .before .before .before .before .before .before .before .checks .ensures, c .before .before .before .before .before .before .before .before .if1 .left))
+returns-2 c = (
+  ap paper
+      (stopped (c .before .before .before .before .before .args .array .now) (c .before .before .before .before .before .args .state) (c .before .before .before .before .before .args .code)
+      (c .answer-of2 .ensures) (c .before .refuse .ensures) (c .before .before .before .checks .ensures) (c .before .before .if1 .left)),
+  simp (c .answer-of2 .ensures, c .before .refuse .ensures, ← c .before .before .before .checks .ensures, ne-eqb _ _ (c .before .before .if1 .left)),
+)
 
 pub event-spec : {M : Type 1} → statement M
 event-spec =
     tie.close
     (tie.spec
     checks-requires
-    refuse-requires
-    returns
     cast-figure-of
     figure-of-requires
     cast-step
     step-requires
     store-requires
+    answer-of-requires
+    refuse-requires
+    answer-of-requires-2
     same-length
+    returns
     returns-2)

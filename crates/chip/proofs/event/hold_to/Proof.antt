@@ -1,4 +1,4 @@
--- A level that is there; SCK high; /CS moved: in this order.
+-- A level that is there; SCK high; the rise.
 use borrow.Author.Needs.{needs}
 use Rattle.chip.proofs.event.hold_to.Statement.{statement}
 use Rattle.chip.proofs.event.hold_to.Tie as tie
@@ -12,56 +12,38 @@ silent-requires c κs = search needs
 accept-requires : tie.Need-accept-requires
 accept-requires c κs = search needs
 
-returns : tie.Need-returns
-returns c = simp (c .accept .ensures, c .before .silent .ensures, ← c .before .before .before .before .hold-high .ensures, c .before .before .if2 .taken, c .before .before .before .if1 .taken)
+hold-up-requires : tie.Need-hold-up-requires
+hold-up-requires c κs = search needs
 
 refuse-requires : tie.Need-refuse-requires
 refuse-requires c κs = search needs
 
-returns-2 : tie.Need-returns-2
-returns-2 c = simp (c .refuse .ensures, ← c .before .before .before .before .hold-high .ensures, c .before .if3 .taken, c .before .before .if2 .left, c .before .before .before .if1 .taken)
-
-cs-stayed-requires : tie.Need-cs-stayed-requires
-cs-stayed-requires c κs = search needs
-
-hold-rise-requires : tie.Need-hold-rise-requires
-hold-rise-requires c κs = search needs
+hold-fall-requires : tie.Need-hold-fall-requires
+hold-fall-requires c κs = search needs
 
 accept-requires-2 : tie.Need-accept-requires-2
 accept-requires-2 c κs = search needs
 
-returns-3 : tie.Need-returns-3
-returns-3 c = simp (c .accept2 .ensures, c .before .hold-rise .ensures, ← c .before .before .before .cs-stayed .ensures, ← c .before .before .before .before .before .before .before .hold-high .ensures, c .before .before .if4 .taken, c .before .before .before .before .if3 .left, c .before .before .before .before .before .if2 .left, c .before .before .before .before .before .before .if1 .taken)
-
-refuse-requires-2 : tie.Need-refuse-requires-2
-refuse-requires-2 c κs = search needs
-
-returns-4 : tie.Need-returns-4
-returns-4 c = simp (c .refuse2 .ensures, ← c .before .before .cs-stayed .ensures, ← c .before .before .before .before .before .before .hold-high .ensures, c .before .if4 .left, c .before .before .before .if3 .left, c .before .before .before .before .if2 .left, c .before .before .before .before .before .if1 .taken)
-
-refuse-requires-3 : tie.Need-refuse-requires-3
-refuse-requires-3 c κs = search needs
-
-returns-5 : tie.Need-returns-5
-returns-5 c = simp (c .refuse3 .ensures, ← c .before .before .before .before .hold-high .ensures, c .before .if6 .taken, c .before .before .if5 .taken, c .before .before .before .if1 .left)
-
-hold-fall-requires : tie.Need-hold-fall-requires
-hold-fall-requires c κs = search needs
+silent-requires-2 : tie.Need-silent-requires-2
+silent-requires-2 c κs = search needs
 
 accept-requires-3 : tie.Need-accept-requires-3
 accept-requires-3 c κs = search needs
 
-returns-6 : tie.Need-returns-6
-returns-6 c = simp (c .accept3 .ensures, c .before .hold-fall .ensures, ← c .before .before .before .before .before .hold-high .ensures, c .before .before .if6 .left, c .before .before .before .if5 .taken, c .before .before .before .before .if1 .left)
+returns : tie.Need-returns
+returns c = simp (c .accept .ensures, c .before .silent .ensures, ← c .before .before .before .before .hold-high .ensures, c .before .before .if2 .taken, c .before .before .before .if1 .taken)
 
-silent-requires-2 : tie.Need-silent-requires-2
-silent-requires-2 c κs = search needs
+returns-2 : tie.Need-returns-2
+returns-2 c = simp (c .hold-up .ensures, ← c .before .before .before .hold-high .ensures, c .before .if2 .left, c .before .before .if1 .taken)
 
-accept-requires-4 : tie.Need-accept-requires-4
-accept-requires-4 c κs = search needs
+returns-3 : tie.Need-returns-3
+returns-3 c = simp (c .refuse .ensures, ← c .before .before .before .before .hold-high .ensures, c .before .if4 .taken, c .before .before .if3 .taken, c .before .before .before .if1 .left)
 
-returns-7 : tie.Need-returns-7
-returns-7 c = simp (c .accept4 .ensures, c .before .silent2 .ensures, ← c .before .before .before .before .hold-high .ensures, c .before .before .if5 .left, c .before .before .before .if1 .left)
+returns-4 : tie.Need-returns-4
+returns-4 c = simp (c .accept2 .ensures, c .before .hold-fall .ensures, ← c .before .before .before .before .before .hold-high .ensures, c .before .before .if4 .left, c .before .before .before .if3 .taken, c .before .before .before .before .if1 .left)
+
+returns-5 : tie.Need-returns-5
+returns-5 c = simp (c .accept3 .ensures, c .before .silent2 .ensures, ← c .before .before .before .before .hold-high .ensures, c .before .before .if3 .left, c .before .before .before .if1 .left)
 
 pub hold-to-spec : {M : Type 1} → statement M
 hold-to-spec =
@@ -70,20 +52,14 @@ hold-to-spec =
     hold-high-requires
     silent-requires
     accept-requires
-    returns
+    hold-up-requires
     refuse-requires
-    returns-2
-    cs-stayed-requires
-    hold-rise-requires
-    accept-requires-2
-    returns-3
-    refuse-requires-2
-    returns-4
-    refuse-requires-3
-    returns-5
     hold-fall-requires
-    accept-requires-3
-    returns-6
+    accept-requires-2
     silent-requires-2
-    accept-requires-4
-    returns-7)
+    accept-requires-3
+    returns
+    returns-2
+    returns-3
+    returns-4
+    returns-5)

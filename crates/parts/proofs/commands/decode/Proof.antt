@@ -1,37 +1,62 @@
--- Each test that the code passes or fails is the test of the definition in the same place.
-use borrow.Author.Tests.{eq-eqb, ne-eqb}
+-- The command of the entries from here on is the command of the whole list; at an entry with the op-code it is that
+-- entry's, past the end there is none.
+use Prim.Native.Nat.{ℕ, _-_, _≤_}
+use mathlib.Core.Path.{_≡_}
+use borrow.Author.Needs.{needs}
+use lib.ListN.{drop}
+use Rattle.parts.proofs.Ops.{found, missed, nowhere}
 use Rattle.parts.specs.Commands.{command}
 use Rattle.parts.proofs.commands.decode.Statement.{statement}
 use Rattle.parts.proofs.commands.decode.Tie as tie
 
-returns : tie.Need-returns
-unfolding command
-returns c = simp (eq-eqb _ _ (c .if1 .taken))
+abbrev Inv-loop : tie.InvT-loop
+Inv-loop code ops i₀ i = (i ≤ 8) × (command (drop i ops) code ≡ command ops code)
 
-returns-2 : tie.Need-returns-2
-unfolding command
-returns-2 c = simp (eq-eqb _ _ (c .if2 .taken), ne-eqb _ _ (c .before .before .if1 .left))
+abbrev μ-loop : tie.MeasureT-loop
+μ-loop code ops i₀ i = 8 - i
 
-returns-3 : tie.Need-returns-3
-unfolding command
-returns-3 c = simp (eq-eqb _ _ (c .if3 .taken), ne-eqb _ _ (c .before .before .if2 .left), ne-eqb _ _ (c .before .before .before .before .if1 .left))
+loop-holds : tie.Need-loop-holds Inv-loop μ-loop
+loop-holds c = search needs
 
-returns-4 : tie.Need-returns-4
-unfolding command
-returns-4 c = simp (eq-eqb _ _ (c .if4 .taken), ne-eqb _ _ (c .before .before .if3 .left), ne-eqb _ _ (c .before .before .before .before .if2 .left), ne-eqb _ _ (c .before .before .before .before .before .before .if1 .left))
+mul-op : tie.Need-mul-op Inv-loop μ-loop
+mul-op c = search needs
 
-returns-5 : tie.Need-returns-5
-unfolding command
-returns-5 c = simp (eq-eqb _ _ (c .if5 .taken), ne-eqb _ _ (c .before .before .before .if4 .left), ne-eqb _ _ (c .before .before .before .before .before .if3 .left), ne-eqb _ _ (c .before .before .before .before .before .before .before .if2 .left), ne-eqb _ _ (c .before .before .before .before .before .before .before .before .before .if1 .left))
+array-copy-out-op : tie.Need-array-copy-out-op Inv-loop μ-loop
+array-copy-out-op c = search needs
 
-returns-6 : tie.Need-returns-6
-unfolding command
-returns-6 c = simp (eq-eqb _ _ (c .if6 .taken), ne-eqb _ _ (c .before .before .before .if5 .left), ne-eqb _ _ (c .before .before .before .before .before .before .if4 .left), ne-eqb _ _ (c .before .before .before .before .before .before .before .before .if3 .left), ne-eqb _ _ (c .before .before .before .before .before .before .before .before .before .before .if2 .left), ne-eqb _ _ (c .before .before .before .before .before .before .before .before .before .before .before .before .if1 .left))
+returns : tie.Need-returns Inv-loop μ-loop
+returns c =
+    found _ (c .before .before .before .before .loop .i) _ 8 (c .before .before .before .before .before .good .0 .1 .0 .1)
+    (c .before .before .before .before .loop .inv .1) _ (c .before .before .before .loop-test .taken) (c .if1 .taken)
 
-returns-7 : tie.Need-returns-7
-unfolding command
-returns-7 c = simp (ne-eqb _ _ (c .if6 .left), ne-eqb _ _ (c .before .before .before .if5 .left), ne-eqb _ _ (c .before .before .before .before .before .before .if4 .left), ne-eqb _ _ (c .before .before .before .before .before .before .before .before .if3 .left), ne-eqb _ _ (c .before .before .before .before .before .before .before .before .before .before .if2 .left), ne-eqb _ _ (c .before .before .before .before .before .before .before .before .before .before .before .before .if1 .left))
+add-i : tie.Need-add-i Inv-loop μ-loop
+add-i c = search needs
+
+loop-less : tie.Need-loop-less Inv-loop μ-loop
+loop-less c = search needs
+
+loop-again : tie.Need-loop-again Inv-loop μ-loop
+loop-again c = (
+  search needs,
+  missed _ (c .before .before .before .before .loop .i) _ 8 (c .before .before .before .before .before .good .0 .1 .0 .1)
+      (c .before .before .before .before .loop .inv .1) _ (c .before .before .before .loop-test .taken) (c .if1 .left),
+)
+
+returns-2 : tie.Need-returns-2 Inv-loop μ-loop
+returns-2 c =
+    nowhere _ (c .before .loop .i) _ 8 (c .before .before .good .0 .1 .0 .1) (c .before .loop .inv .1) (c .loop-test .left)
 
 pub decode-spec : {M : Type 1} → statement M
 decode-spec =
-    tie.close (tie.spec returns returns-2 returns-3 returns-4 returns-5 returns-6 returns-7)
+    tie.close
+    (tie.spec
+    Inv-loop
+    μ-loop
+    loop-holds
+    mul-op
+    array-copy-out-op
+    returns
+    add-i
+    loop-less
+    loop-again
+    returns-2)

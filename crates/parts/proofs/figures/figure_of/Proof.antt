@@ -1,28 +1,32 @@
--- The table is the definition's list, entry by entry; past its end the row of no part stands in both.
-use mathlib.Core.Path.{refl, sym}
-use lib.ListN.{List·getD-eq-default}
-use Rattle.parts.specs.Figures.{figureOf, none, parts}
-use borrow.Author.Needs.{needs}
+-- Each part's row is the table's at its number; any other number has the row of no part in both.
+use mathlib.Core.Path.{_≡_, refl}
+use Prim.Native.Nat.{ℕ, zero, suc}
+use Rattle.parts.specs.Figures.{none, figureOf}
 use Rattle.parts.proofs.figures.figure_of.Statement.{statement}
 use Rattle.parts.proofs.figures.figure_of.Tie as tie
 
-mul-result : tie.Need-mul-result
-mul-result c = search needs
-
-array-copy-out-result : tie.Need-array-copy-out-result
-array-copy-out-result c = search needs
-
-array-copy-out-result-2 : tie.Need-array-copy-out-result-2
-array-copy-out-result-2 c = search needs
+no-part : (part : ℕ) → (part ≡ 1 → ⊥) → (part ≡ 2 → ⊥) → (part ≡ 3 → ⊥) → none ≡ figureOf part
+unfolding figureOf
+no-part zero a b d = refl
+no-part (suc zero) a b d = absurd (a refl)
+no-part (suc (suc zero)) a b d = absurd (b refl)
+no-part (suc (suc (suc zero))) a b d = absurd (d refl)
+no-part (suc (suc (suc (suc k)))) a b d = refl
 
 returns : tie.Need-returns
 unfolding figureOf
-returns c = refl
+returns c = rw (c .match .keys1)
 
 returns-2 : tie.Need-returns-2
 unfolding figureOf
-returns-2 c = sym (List·getD-eq-default parts none (c .before .if1 .left))
+returns-2 c = rw (c .match .keys2)
+
+returns-3 : tie.Need-returns-3
+unfolding figureOf
+returns-3 c = rw (c .match .keys3)
+
+returns-4 : tie.Need-returns-4
+returns-4 c = no-part (c .before .args .part) (c .match .rest .0 .0 .1) (c .match .rest .0 .1) (c .match .rest .1)
 
 pub figure-of-spec : {M : Type 1} → statement M
-figure-of-spec =
-    tie.close (tie.spec mul-result array-copy-out-result array-copy-out-result-2 returns returns-2)
+figure-of-spec = tie.close (tie.spec returns returns-2 returns-3 returns-4)

@@ -4,7 +4,7 @@ use Rattle.select.proofs.fall.status_byte.Statement.{statement}
 use Rattle.select.proofs.fall.status_byte.Tie as tie
 
 returns : tie.Need-returns
-returns c = simp (c .if1 .taken)
+returns c = simp (c .before .if1 .taken)
 
 returns-2 : tie.Need-returns-2
 returns-2 c = search needs

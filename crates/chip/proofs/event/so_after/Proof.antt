@@ -1,0 +1,17 @@
+-- The level of the new state, or released at a refusal.
+use borrow.Author.Tests.{ne-eqb}
+use borrow.Author.Needs.{needs}
+use Rattle.chip.proofs.event.so_after.Statement.{statement}
+use Rattle.chip.proofs.event.so_after.Tie as tie
+
+so-requires : tie.Need-so-requires
+so-requires c κs = search needs
+
+returns : tie.Need-returns
+returns c = simp (c .so .ensures, c .before .if1 .taken)
+
+returns-2 : tie.Need-returns-2
+returns-2 c = simp (ne-eqb _ _ (c .if1 .left))
+
+pub so-after-spec : {M : Type 1} → statement M
+so-after-spec = tie.close (tie.spec so-requires returns returns-2)

@@ -1,0 +1,117 @@
+-- What an event keeps, and so a run of them: the part, the array's length, soundness. Assumes nothing.
+use Prim.Native.Nat.{ℕ, _/_, _%_}
+use mathlib.Core.Path.{_≡_, refl, _∙_}
+use mathlib.Core.Bool.{Bool, true, false, _&&_}
+use mathlib.Core.List.{List, [], _∷_}
+use lib.Dec.{eqb}
+use lib.ListN.{length, length-set}
+use Rattle.parts.specs.Figures.{figureOf}
+use Rattle.parts.specs.TestLaws.{choose}
+use Rattle.parts.specs.declared.figures.Figure.{Figure}
+use Rattle.stages.specs.Close.{drops}
+use Rattle.select.specs.declared.notes.Note.{Note}
+use Rattle.select.specs.declared.notes.Note.the-variants.{Nothing, Latch, Stored, HeldBack, KeptSet, KeptHeldBack, PowerLost}
+use Rattle.lines.specs.Edges.{csFall, csRise, sckRise, sckFall, holdFall, holdRise}
+use Rattle.lines.specs.Lines.{csLevel, holdHigh}
+use Rattle.lines.specs.Sound.{sound}
+use Rattle.lines.specs.declared.state.State.{State}
+use Rattle.lines.specs.declared.state.Moved.{Moved}
+use Rattle.chip.specs.Event.{csTo, sckTo, siTo, holdTo, csStayed, wpTo, vddTo, live, dark, step, checks, event, written}
+use Rattle.chip.specs.Run.{Chip, next, run}
+use Rattle.chip.specs.SoundLaws.{event-sound}
+use Rattle.chip.specs.declared.event.Stepped.{Stepped}
+
+-- what an event writes keeps the array's length
+pub written-length : (note : Note) (xs : List ℕ) → length (written note xs) ≡ length xs
+unfolding written
+written-length Nothing xs = refl
+written-length (Latch level) xs = refl
+written-length (Stored at byte) xs = length-set xs at byte
+written-length (HeldBack at reason) xs = refl
+written-length (KeptSet kept) xs = refl
+written-length (KeptHeldBack reason) xs = refl
+written-length PowerLost xs = refl
+
+-- every edge keeps the part
+module _ (s : State) where
+  abbrev Same : State → Type 0
+  Same next = next .part ≡ s .part
+
+  abbrev Moves : Moved → Type 0
+  Moves m = Same (m .state)
+
+  abbrev Steps : Stepped → Type 0
+  Steps t = Same (t .state)
+
+  cs-part : (level : Bool) → Moves (csTo s level)
+  unfolding csFall csRise
+  cs-part true =
+      choose Moves (csLevel s) refl (choose Moves (holdHigh (s .hold)) (choose Moves (s .latch && drops (s .stage)) refl refl) refl)
+  cs-part false = choose Moves (csLevel s) (choose Same (holdHigh (s .hold)) refl refl) refl
+
+  sck-part : (f : Figure) (xs : List ℕ) (level : Bool) → Moves (sckTo f xs s level)
+  unfolding sckRise sckFall
+  sck-part f xs true = choose Moves (s .sck) refl (choose Moves (holdHigh (s .hold)) refl refl)
+  sck-part f xs false = choose Moves (s .sck) (choose Same (holdHigh (s .hold)) refl refl) refl
+
+  si-part : (level : Bool) → Moves (siTo s level)
+  si-part true = refl
+  si-part false = refl
+
+  hold-part : (level : Bool) → Steps (holdTo s level)
+  unfolding holdFall holdRise
+  hold-part true = choose Steps (holdHigh (s .hold)) refl (choose Steps (s .sck) refl (choose Steps (csStayed s) refl refl))
+  hold-part false = choose Steps (holdHigh (s .hold)) (choose Steps (s .sck) refl refl) refl
+
+  wp-part : (level : Bool) → Moves (wpTo s level)
+  wp-part true = refl
+  wp-part false = refl
+
+  vdd-part : (level : Bool) → Moves (vddTo s level)
+  vdd-part true = refl
+  vdd-part false = refl
+
+  live-part : (f : Figure) (xs : List ℕ) (pin : ℕ) (level : Bool) → Steps (live f xs s pin level)
+  unfolding live
+  live-part f xs pin level =
+      choose Steps (eqb pin 0) (cs-part level)
+      (choose Steps (eqb pin 1) (sck-part f xs level)
+      (choose Steps (eqb pin 2) (si-part level)
+      (choose Steps (eqb pin 3) (hold-part level)
+      (choose Steps (eqb pin 4) (wp-part level)
+      (vdd-part level)))))
+
+  pub event-part : (xs : List ℕ) (code : ℕ) → event xs s code .state .part ≡ s .part
+  unfolding event step
+  event-part xs code =
+      choose Steps (eqb (checks s (length xs) code) 0)
+      (choose Steps (s .power) (live-part (figureOf (s .part)) xs (code / 2) (eqb (code % 2) 1)) (choose Moves (eqb code 11) refl refl))
+      refl
+
+module _ (c : Chip) (code : ℕ) where
+  pub next-part : next c code .state .part ≡ c .state .part
+  unfolding next
+  next-part = event-part (c .state) (c .array) code
+
+  pub next-length : length (next c code .array) ≡ length (c .array)
+  unfolding next
+  next-length = written-length (event (c .array) (c .state) code .note) (c .array)
+
+  pub next-sound : sound (c .state) ≡ true → sound (next c code .state) ≡ true
+  unfolding next
+  next-sound h = event-sound (c .state) h (c .array) code
+
+pub run-part : (c : Chip) (codes : List ℕ) → run c codes .state .part ≡ c .state .part
+unfolding run
+run-part c [] = refl
+run-part c (code ∷ codes) = run-part (next c code) codes ∙ next-part c code
+
+pub run-length : (c : Chip) (codes : List ℕ) → length (run c codes .array) ≡ length (c .array)
+unfolding run
+run-length c [] = refl
+run-length c (code ∷ codes) = run-length (next c code) codes ∙ next-length c code
+
+pub run-sound : (c : Chip) (codes : List ℕ) → sound (c .state) ≡ true → sound (run c codes .state) ≡ true
+unfolding run
+run-sound c [] h = h
+run-sound c (code ∷ codes) h = run-sound (next c code) codes (next-sound c code h)
