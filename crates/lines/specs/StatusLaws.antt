@@ -10,8 +10,8 @@ use lib.Bits.{bitAnd, and-le-r}
 use lib.Dec.{eqb}
 use lib.ListN.{length}
 use Rattle.parts.specs.FigureLaws.{fair, below-count}
-use Rattle.parts.specs.Figures.{parts, figureOf, inMask}
-use Rattle.parts.specs.TestLaws.{left, right}
+use Rattle.parts.specs.Figures.{parts, figureOf, isPart, inMask}
+use Rattle.parts.specs.TestLaws.{both, left, right}
 use Rattle.stages.specs.Bits.{lowBit}
 use Rattle.stages.specs.Clocked.{bitAt}
 use Rattle.select.specs.Fall.{statusByte}
@@ -42,7 +42,7 @@ one-below test (suc n) k h l = go (eqb k n) refl (one-below test n k (right (tes
     go false e below = below (less (eqb-false k n e) l)
 
 abbrev same : ℕ → Bool → ℕ → Bool
-same part latch kept = not (inMask part kept) || eqb (statusByte kept latch) (statusBits part kept latch)
+same part latch kept = not (isPart part && inMask part kept) || eqb (statusByte (figureOf part) kept latch) (statusBits part kept latch)
 
 all-same : (latch : Bool) → allBelow (λ part. allBelow (same part latch) 256) (length parts) ≡ true
 unfolding allBelow figureOf
@@ -60,11 +60,11 @@ module _ (s : State) (h : sound s ≡ true) where
       (rw (eqb-true (bitAnd (s .kept) (figureOf (s .part) .kept)) (s .kept) (good s h .kept)) at (and-le-r (s .kept) (figureOf (s .part) .kept)))
       (fair (s .part) (good s h .part) .mask)
 
-  pub status-byte : statusByte (s .kept) (s .latch) ≡ statusBits (s .part) (s .kept) (s .latch)
+  pub status-byte : statusByte (figureOf (s .part)) (s .kept) (s .latch) ≡ statusBits (s .part) (s .kept) (s .latch)
   status-byte =
       eqb-true _ _
-      (passed (inMask (s .part) (s .kept)) (eqb (statusByte (s .kept) (s .latch)) (statusBits (s .part) (s .kept) (s .latch)))
-      (good s h .kept)
+      (passed (isPart (s .part) && inMask (s .part) (s .kept)) (eqb (statusByte (figureOf (s .part)) (s .kept) (s .latch)) (statusBits (s .part) (s .kept) (s .latch)))
+      (both (good s h .part) (good s h .kept))
       (one-below (same (s .part) (s .latch)) 256 (s .kept)
       (one-below (λ part. allBelow (same part (s .latch)) 256) (length parts) (s .part) (all-same (s .latch)) (below-count (s .part) (good s h .part)))
       kept-byte))
