@@ -22,6 +22,7 @@ use Rattle.lines.specs.declared.hold.Hold.the-variants.{High}
 use Rattle.stages.specs.declared.stage.Stage.the-variants.{Closed}
 use Rattle.lines.specs.declared.state.State.{State}
 use Rattle.chip.specs.declared.event.Answer.{Answer}
+use Rattle.chip.specs.declared.event.Stepped.{Stepped}
 use Rattle.history.specs.Lines.{Lines, rest, refusal, after, afterAll, act, acts, passes}
 use Rattle.history.specs.History.{World, history}
 use Rattle.history.specs.Run.{worldOf}
@@ -112,7 +113,8 @@ module _ (part : ℕ) (fair : Fair (figureOf part)) {l : Lines} {p : Place} {w :
       go : (t : Bool) → leb 12 code ≡ t → event (c .array) (c .state) code .refusal ≡ refusal l code
       go true e = rw (event-unknown (c .array) (c .state) (m .good) own code e, e)
       go false e =
-          ap (λ (a : Answer). a .refusal) (event-step (c .array) (c .state) (m .good) own code e ∙ steps-own (m .agrees) code)
+          ap (λ (a : Answer). a .refusal) (event-step (c .array) (c .state) (m .good) own code e)
+          ∙ ap (λ (t : Stepped). t .refusal) (steps-own (m .agrees) code)
           ∙ refuses part code e (m .agrees)
 
   pub moment-next :
