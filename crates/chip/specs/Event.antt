@@ -7,12 +7,11 @@ use lib.Dec.{eqb, leb}
 use Rattle.parts.specs.Figures.{figureOf, fitsPart}
 use Rattle.parts.specs.declared.figures.Figure.{Figure}
 use Rattle.stages.specs.Close.{isClosed}
-use Rattle.select.specs.declared.notes.Level.{Level}
 use Rattle.select.specs.declared.notes.Level.the-variants.{Released}
 use Rattle.select.specs.declared.notes.Note.{Note}
 use Rattle.select.specs.declared.notes.Note.the-variants.{Nothing, Latch, Stored, HeldBack, KeptSet, KeptHeldBack, PowerLost}
 use Rattle.lines.specs.Lines.{holdHigh, csLevel, soLevel}
-use Rattle.lines.specs.Edges.{silent, csFall, csRise, sckRise, sckFall, siRise, siFall, holdFall, holdRise, wpRise, wpFall, vddFall, vddRise}
+use Rattle.lines.specs.Edges.{silent, csFall, csRise, sckRise, sckFall, siTo, holdFall, holdRise, wpTo, vddFall, vddRise}
 use Rattle.lines.specs.Sound.{sound}
 use Rattle.lines.specs.declared.state.State.{State}
 use Rattle.lines.specs.declared.state.Moved.{Moved}
@@ -27,13 +26,11 @@ accepted m = record { refusal = 0; note = m .note; state = m .state }
 abbrev pub refused : ℕ → State → Stepped
 refused number s = record { refusal = number; note = Nothing; state = s }
 
--- "the level of SO after it"; at a refusal "SO reads released"
-abbrev pub soAfter : ℕ → State → Level
-soAfter refusal s = cond (eqb refusal 0) (soLevel s) Released
-
--- "The answer to an event: a refusal number or 0; the state; the level of SO after it; and one note"
+-- "The answer to an event: a refusal number or 0; the state; the level of SO after it; and one note"; at a refusal "SO
+--  reads released"
 abbrev pub answerOf : Stepped → Answer
-answerOf t = record { refusal = t .refusal; so = soAfter (t .refusal) (t .state); note = t .note; state = t .state }
+answerOf t =
+    record { refusal = t .refusal; so = cond (eqb (t .refusal) 0) (soLevel (t .state)) Released; note = t .note; state = t .state }
 
 -- "Setting a pin to the level it has is accepted and has no effect."
 abbrev pub csTo : State → Bool → Moved
@@ -59,15 +56,6 @@ holdTo s false =
     cond (holdHigh (s .hold))
     (cond (s .sck) (refused 6 s) (accepted (holdFall s)))
     (accepted (silent s))
-
--- SI and /WP go to the level that they are set to, had before or not
-abbrev pub siTo : State → Bool → Moved
-siTo s true = siRise s
-siTo s false = siFall s
-
-abbrev pub wpTo : State → Bool → Moved
-wpTo s true = wpRise s
-wpTo s false = wpFall s
 
 abbrev pub vddTo : State → Bool → Moved
 vddTo s true = silent s
@@ -102,14 +90,12 @@ checks s len code =
     0))
 
 -- one event on the lent array: refused by the first checks, or the step
-abbrev pub tested : List ℕ → State → ℕ → Stepped
-tested xs s code =
-    cond (eqb (checks s (length xs) code) 0)
-    (step (figureOf (s .part)) xs s code)
-    (refused (checks s (length xs) code) s)
-
 unfoldable pub event : List ℕ → State → ℕ → Answer
-event xs s code = answerOf (tested xs s code)
+event xs s code =
+    answerOf
+    (cond (eqb (checks s (length xs) code) 0)
+    (step (figureOf (s .part)) xs s code)
+    (refused (checks s (length xs) code) s))
 
 -- the array after an event: one byte changes, where the note says stored
 unfoldable pub written : Note → List ℕ → List ℕ

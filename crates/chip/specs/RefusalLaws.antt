@@ -10,11 +10,11 @@ use lib.ListN.{length}
 use Rattle.parts.specs.Figures.{figureOf}
 use Rattle.parts.specs.TestLaws.{choose}
 use Rattle.parts.specs.declared.figures.Figure.{Figure}
-use Rattle.lines.specs.Edges.{silent, holdFall, holdRise, vddRise}
+use Rattle.lines.specs.Edges.{silent, siTo, holdFall, holdRise, wpTo, vddRise}
 use Rattle.lines.specs.Lines.{holdHigh}
 use Rattle.lines.specs.declared.state.State.{State}
 use Rattle.lines.specs.declared.state.Moved.{Moved}
-use Rattle.chip.specs.Event.{accepted, refused, answerOf, csTo, sckTo, siTo, holdTo, csStayed, wpTo, vddTo, live, step, tested, checks, event, written}
+use Rattle.chip.specs.Event.{accepted, refused, answerOf, csTo, sckTo, holdTo, csStayed, vddTo, live, step, checks, event, written}
 use Rattle.chip.specs.declared.event.Answer.{Answer}
 use Rattle.chip.specs.declared.event.Stepped.{Stepped}
 
@@ -45,7 +45,9 @@ module _ (s : State) where
       (choose Told (eqb pin 4) (accept (wpTo s level))
       (accept (vddTo s level))))))
 
-  tested-told : (xs : List ℕ) (code : ℕ) → Told (tested xs s code)
+  tested-told :
+      (xs : List ℕ) (code : ℕ)
+      → Told (cond (eqb (checks s (length xs) code) 0) (step (figureOf (s .part)) xs s code) (refused (checks s (length xs) code) s))
   unfolding step
   tested-told xs code =
       choose Told (eqb (checks s (length xs) code) 0)

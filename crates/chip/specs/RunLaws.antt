@@ -16,7 +16,7 @@ use Rattle.lines.specs.Lines.{csLevel, holdHigh}
 use Rattle.lines.specs.Sound.{sound}
 use Rattle.lines.specs.declared.state.State.{State}
 use Rattle.lines.specs.declared.state.Moved.{Moved}
-use Rattle.chip.specs.Event.{csTo, sckTo, siTo, holdTo, csStayed, wpTo, vddTo, live, dark, step, checks, event, written}
+use Rattle.chip.specs.Event.{csTo, sckTo, holdTo, csStayed, vddTo, live, dark, step, checks, event, written}
 use Rattle.chip.specs.Run.{Chip, next, run}
 use Rattle.chip.specs.SoundLaws.{event-sound}
 use Rattle.chip.specs.declared.event.Stepped.{Stepped}
@@ -54,18 +54,10 @@ module _ (s : State) where
   sck-part f xs true = choose Moves (s .sck) refl (choose Moves (holdHigh (s .hold)) refl refl)
   sck-part f xs false = choose Moves (s .sck) (choose Same (holdHigh (s .hold)) refl refl) refl
 
-  si-part : (level : Bool) → Moves (siTo s level)
-  si-part true = refl
-  si-part false = refl
-
   hold-part : (level : Bool) → Steps (holdTo s level)
   unfolding holdFall holdRise
   hold-part true = choose Steps (holdHigh (s .hold)) refl (choose Steps (s .sck) refl (choose Steps (csStayed s) refl refl))
   hold-part false = choose Steps (holdHigh (s .hold)) (choose Steps (s .sck) refl refl) refl
-
-  wp-part : (level : Bool) → Moves (wpTo s level)
-  wp-part true = refl
-  wp-part false = refl
 
   vdd-part : (level : Bool) → Moves (vddTo s level)
   vdd-part true = refl
@@ -76,9 +68,9 @@ module _ (s : State) where
   live-part f xs pin level =
       choose Steps (eqb pin 0) (cs-part level)
       (choose Steps (eqb pin 1) (sck-part f xs level)
-      (choose Steps (eqb pin 2) (si-part level)
+      (choose Steps (eqb pin 2) refl
       (choose Steps (eqb pin 3) (hold-part level)
-      (choose Steps (eqb pin 4) (wp-part level)
+      (choose Steps (eqb pin 4) refl
       (vdd-part level)))))
 
   pub event-part : (xs : List ℕ) (code : ℕ) → event xs s code .state .part ≡ s .part

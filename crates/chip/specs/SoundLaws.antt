@@ -10,7 +10,7 @@ use lib.Dec.{eqb}
 use Rattle.parts.specs.Figures.{figureOf}
 use Rattle.parts.specs.TestLaws.{choose}
 use Rattle.lines.specs.Edges.{holdFall, holdRise}
-use Rattle.chip.specs.Event.{csTo, sckTo, siTo, holdTo, csStayed, wpTo, vddTo, live, dark, step, checks, event}
+use Rattle.chip.specs.Event.{csTo, sckTo, holdTo, csStayed, vddTo, live, dark, step, checks, event}
 use Rattle.chip.specs.EventLaws.{checks-passed, accepted-passed}
 use Rattle.lines.specs.Lines.{atRest, csLevel, holdHigh}
 use Rattle.chip.specs.Power.{powerRefusal, powerUp}
@@ -41,14 +41,6 @@ module _ (s : State) (h : sound s ≡ true) (on : s .power ≡ true) where
   hold-to false =
       choose Answers (holdHigh (s .hold)) (choose Answers (s .sck) h (kept-on s h on _ refl refl refl refl)) h
 
-  si-to : (level : Bool) → Keeps (siTo s level)
-  si-to true = kept-on s h on _ refl refl refl refl
-  si-to false = kept-on s h on _ refl refl refl refl
-
-  wp-to : (level : Bool) → Keeps (wpTo s level)
-  wp-to true = kept-on s h on _ refl refl refl refl
-  wp-to false = kept-on s h on _ refl refl refl refl
-
   vdd-to : (level : Bool) → Keeps (vddTo s level)
   vdd-to true = h
   vdd-to false = rest-sound (s .part) (s .kept) false (good s h .part) (good s h .kept)
@@ -58,9 +50,9 @@ module _ (s : State) (h : sound s ≡ true) (on : s .power ≡ true) where
   live-sound xs pin level =
       choose Answers (eqb pin 0) (cs-to level)
       (choose Answers (eqb pin 1) (sck-to xs level)
-      (choose Answers (eqb pin 2) (si-to level)
+      (choose Answers (eqb pin 2) (kept-on s h on _ refl refl refl refl)
       (choose Answers (eqb pin 3) (hold-to level)
-      (choose Answers (eqb pin 4) (wp-to level)
+      (choose Answers (eqb pin 4) (kept-on s h on _ refl refl refl refl)
       (vdd-to level)))))
 
 module _ (s : State) (h : sound s ≡ true) where

@@ -1,7 +1,8 @@
 // One event.
 ghost use mathlib.Core.Path.{_≡_};
-ghost use Rattle.chip.specs.Event.{accepted, refused, soAfter, answerOf, csTo, sckTo, siTo, csStayed, holdUp, holdTo, wpTo, vddTo, live, dark, step, checks, written};
+ghost use Rattle.chip.specs.Event.{accepted, refused, answerOf, csTo, sckTo, csStayed, holdUp, holdTo, vddTo, live, dark, step, checks, written};
 ghost use Rattle.chip.specs.Promises.{EventPromise};
+ghost use Rattle.lines.specs.Edges.{siTo, wpTo};
 use lines::hold::hold_high;
 use lines::sound::sound;
 use lines::state::Moved;
@@ -49,29 +50,28 @@ fn refuse(refusal: u8, state: State) -> Stepped
     }
 }
 
-// The level of SO after an event, released where it was refused.
-fn so_after(refusal: u8, state: State) -> Level
-    ensures { λ r. ⌜ r ≡ soAfter refusal state ⌝ }
-{
-    if refusal == 0 {
-        state.so()
-    } else {
-        Level::Released
-    }
-}
-
+// SO as it is after the event, released where that was refused.
 fn answer_of(stepped: Stepped) -> Answer
     ensures { λ r. ⌜ r ≡ answerOf stepped ⌝ }
 {
     let refusal = stepped.refusal;
     let note = stepped.note;
     let state = stepped.state;
-    let so = so_after(refusal, state);
-    Answer {
-        refusal,
-        so,
-        note,
-        state,
+    if refusal == 0 {
+        let so = state.so();
+        Answer {
+            refusal,
+            so,
+            note,
+            state,
+        }
+    } else {
+        Answer {
+            refusal,
+            so: Level::Released,
+            note,
+            state,
+        }
     }
 }
 

@@ -120,18 +120,13 @@ holdFall s = silent (withHold s (cond (csLevel s) LowCsHigh LowCsLow))
 unfoldable pub holdRise : State → Moved
 holdRise s = silent (withHold s High)
 
--- SI and /WP have a level and no more. "Its level is followed at all times with power on, during hold too."
-abbrev pub siRise : State → Moved
-siRise s = silent (withSi s true)
+-- SI and /WP have a level and no more: one rule for both edges. "Its level is followed at all times with power on,
+-- during hold too."
+abbrev pub siTo : State → Bool → Moved
+siTo s level = silent (withSi s level)
 
-abbrev pub siFall : State → Moved
-siFall s = silent (withSi s false)
-
-abbrev pub wpRise : State → Moved
-wpRise s = silent (withWp s true)
-
-abbrev pub wpFall : State → Moved
-wpFall s = silent (withWp s false)
+abbrev pub wpTo : State → Bool → Moved
+wpTo s level = silent (withWp s level)
 
 -- "Event 10 with power on gives the note power lost and the off state"
 abbrev pub vddFall : State → Moved

@@ -1,7 +1,8 @@
 // The pins' edges, each a method that hands back the next state with the note. The edges of /CS and SCK build what they
 // hand back in place, and not by `silent`: time it before you change that (docs/SPEED.md).
+ghost use mathlib.Core.Bool.{true, false};
 ghost use mathlib.Core.Path.{_≡_};
-ghost use Rattle.lines.specs.Edges.{silent, csFall, csRise, sckRise, sckFall, siRise, siFall, holdFall, holdRise, wpRise, wpFall, vddFall, vddRise};
+ghost use Rattle.lines.specs.Edges.{silent, csFall, csRise, sckRise, sckFall, siTo, holdFall, holdRise, wpTo, vddFall, vddRise};
 use crate::hold::Hold;
 use crate::hold::hold_high;
 use crate::state::Moved;
@@ -155,14 +156,14 @@ impl State {
 
     // SI has a level and no more.
     pub fn si_rise(self) -> Moved
-        ensures { λ r. ⌜ r ≡ siRise self ⌝ }
+        ensures { λ r. ⌜ r ≡ siTo self true ⌝ }
     {
         let state = State { si: true, ..self };
         state.silent()
     }
 
     pub fn si_fall(self) -> Moved
-        ensures { λ r. ⌜ r ≡ siFall self ⌝ }
+        ensures { λ r. ⌜ r ≡ siTo self false ⌝ }
     {
         let state = State { si: false, ..self };
         state.silent()
@@ -199,14 +200,14 @@ impl State {
 
     // /WP has a level and no more.
     pub fn wp_rise(self) -> Moved
-        ensures { λ r. ⌜ r ≡ wpRise self ⌝ }
+        ensures { λ r. ⌜ r ≡ wpTo self true ⌝ }
     {
         let state = State { wp: true, ..self };
         state.silent()
     }
 
     pub fn wp_fall(self) -> Moved
-        ensures { λ r. ⌜ r ≡ wpFall self ⌝ }
+        ensures { λ r. ⌜ r ≡ wpTo self false ⌝ }
     {
         let state = State { wp: false, ..self };
         state.silent()

@@ -8,44 +8,24 @@
 use Prim.Native.Nat.{ℕ}
 use mathlib.Core.Bool.{Bool, true, false, _&&_}
 use mathlib.Core.List.{List, [], _∷_}
-use lib.ListN.{getD, length, replicate}
+use lib.ListN.{getD, length}
 use lib.Bits.{bitAnd}
 use lib.Dec.{eqb, ltb}
 use Rattle.parts.specs.declared.commands.Op.{Op}
+use Rattle.parts.specs.declared.commands.Command.{Command}
 use Rattle.parts.specs.declared.commands.Command.the-variants.{Wren, Wrdi, Rdsr, Wrsr, Read, Write, Other}
 use Rattle.parts.specs.declared.figures.Figure.{Figure}
 
+abbrev op : ℕ → Command → Op
+op code command = record { code = code; command = command }
+
 -- "WREN 06h, WRDI 04h, RDSR 05h, WRSR 01h", on every part
-abbrev pub common : List Op → List Op
-common ops =
-    record { code = 0x06; command = Wren }
-    ∷ record { code = 0x04; command = Wrdi }
-    ∷ record { code = 0x05; command = Rdsr }
-    ∷ record { code = 0x01; command = Wrsr }
-    ∷ ops
+abbrev common : List Op → List Op
+common ops = op 0x06 Wren ∷ op 0x04 Wrdi ∷ op 0x05 Rdsr ∷ op 0x01 Wrsr ∷ ops
 
 -- room that a row does not use: an op-code that does nothing, as other op-codes do
 abbrev filler : Op
-filler = record { code = 0; command = Other }
-
--- a number that is no part's
-abbrev pub none : Figure
-none =
-    record {
-      size = 0;
-      kept = 0;
-      latch = 0;
-      «address_bytes» = 0;
-      upper = 0;
-      top = 0;
-      «guards_array» = false;
-      enable = 0;
-      bp0 = 0;
-      bp1 = 0;
-      quarter = 0;
-      half = 0;
-      ops = replicate 8 filler;
-    }
+filler = op 0 Other
 
 -- "1 | FM25L04 | 512 | op-code bit 3 is the top bit, then one byte | 0Ch". "READ 03h and 0Bh, WRITE 02h and 0Ah, bit 3
 --  being A8." "/WP low holds back the array and the status byte." "180h and 100h up."
@@ -64,13 +44,7 @@ fm25l04 =
       bp1 = 0x08;
       quarter = 0x180;
       half = 0x100;
-      ops =
-          common
-          (record { code = 0x03; command = Read }
-          ∷ record { code = 0x0B; command = Read }
-          ∷ record { code = 0x02; command = Write }
-          ∷ record { code = 0x0A; command = Write }
-          ∷ []);
+      ops = common (op 0x03 Read ∷ op 0x0B Read ∷ op 0x02 Write ∷ op 0x0A Write ∷ []);
     }
 
 -- "2 | FM25L04B | 512 | as part 1 | 0Ch". "Parts 1 and 2 behave alike."
@@ -94,8 +68,12 @@ fm25c160 =
       bp1 = 0x08;
       quarter = 0x600;
       half = 0x400;
-      ops = common (record { code = 0x03; command = Read } ∷ record { code = 0x02; command = Write } ∷ filler ∷ filler ∷ []);
+      ops = common (op 0x03 Read ∷ op 0x02 Write ∷ filler ∷ filler ∷ []);
     }
+
+-- a number that is no part's: no rule reads its row, since 1 or 4 is given before
+abbrev pub none : Figure
+none = fm25l04
 
 -- the rows of parts 1 to 3
 abbrev pub rows : List Figure

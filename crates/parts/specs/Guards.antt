@@ -1,6 +1,6 @@
 -- "Who may write" (document 01). Assumes nothing.
 use Prim.Native.Nat.{ℕ}
-use mathlib.Core.Bool.{Bool, true, false, cond, not, _&&_}
+use mathlib.Core.Bool.{Bool, cond, not, _&&_}
 use lib.Dec.{eqb, leb}
 use lib.Bits.{bitAnd}
 use Rattle.parts.specs.declared.figures.Figure.{Figure}
@@ -20,14 +20,11 @@ abbrev pub isSet : ℕ → ℕ → Bool
 isSet kept bit = not (eqb (bitAnd kept bit) 0)
 
 -- "Blocks, by BP1 BP0: 00 none, 01 the upper quarter, 10 the upper half, 11 all." The first address that is guarded.
-abbrev pub blocksFrom : Figure → Bool → Bool → ℕ
-blocksFrom f false false = f .size
-blocksFrom f false true = f .quarter
-blocksFrom f true false = f .half
-blocksFrom f true true = 0
-
 unfoldable pub firstProtected : Figure → ℕ → ℕ
-firstProtected f kept = blocksFrom f (isSet kept (f .bp1)) (isSet kept (f .bp0))
+firstProtected f kept =
+    cond (isSet kept (f .bp1))
+    (cond (isSet kept (f .bp0)) 0 (f .half))
+    (cond (isSet kept (f .bp0)) (f .quarter) (f .size))
 
 -- "The latch must be set. Parts 1 and 2: /WP low holds back the array and the status byte." And the blocks; "the
 --  lowest that applies is given".

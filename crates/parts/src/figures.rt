@@ -78,23 +78,6 @@ const FILLER: Op = Op {
     command: Command::Other,
 };
 
-// A number that is no part's.
-const NO_PART: Figure = Figure {
-    size: 0,
-    kept: 0,
-    latch: 0,
-    address_bytes: 0,
-    upper: 0,
-    top: 0,
-    guards_array: false,
-    enable: 0,
-    bp0: 0,
-    bp1: 0,
-    quarter: 0,
-    half: 0,
-    ops: [FILLER; OPS],
-};
-
 const FM25L04: Figure = Figure {
     size: 512,
     kept: 0x0C,
@@ -129,6 +112,9 @@ const FM25C160: Figure = Figure {
     half: 0x400,
     ops: [WREN, WRDI, RDSR, WRSR, READ, WRITE, FILLER, FILLER],
 };
+
+// A number that is no part's: no rule reads its row, since 1 or 4 is given before.
+const NO_PART: Figure = FM25L04;
 
 // How many rows there are; row 0 is no part's.
 const ROWS: usize = 4;

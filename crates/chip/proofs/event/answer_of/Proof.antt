@@ -1,13 +1,17 @@
--- SO is what the call says.
+-- SO is asked of the state, or released at a refusal.
+use borrow.Author.Tests.{ne-eqb}
 use borrow.Author.Needs.{needs}
 use Rattle.chip.proofs.event.answer_of.Statement.{statement}
 use Rattle.chip.proofs.event.answer_of.Tie as tie
 
-so-after-requires : tie.Need-so-after-requires
-so-after-requires c κs = search needs
+so-requires : tie.Need-so-requires
+so-requires c κs = search needs
 
 returns : tie.Need-returns
-returns c = simp (c .so-after .ensures)
+returns c = simp (c .so .ensures, c .before .if1 .taken)
+
+returns-2 : tie.Need-returns-2
+returns-2 c = simp (ne-eqb _ _ (c .if1 .left))
 
 pub answer-of-spec : {M : Type 1} → statement M
-answer-of-spec = tie.close (tie.spec so-after-requires returns)
+answer-of-spec = tie.close (tie.spec so-requires returns returns-2)
