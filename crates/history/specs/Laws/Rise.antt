@@ -22,7 +22,6 @@ use Rattle.select.specs.Rise.{begun, storeNote, keptBy, opened, codeRise, upper
 use Rattle.stages.specs.declared.bits.Taken.the-variants.{Part, Whole}
 use Rattle.select.specs.declared.rise.Seen.{Seen}
 use Rattle.select.specs.declared.rise.Risen.{Risen}
-use Rattle.stages.specs.declared.stage.Came.{Came}
 use Rattle.stages.specs.declared.stage.Came.the-variants.{Bytes}
 use Rattle.stages.specs.declared.stage.End.the-variants.{Drops}
 use Rattle.stages.specs.declared.stage.Purpose.{Purpose}
