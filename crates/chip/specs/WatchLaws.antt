@@ -21,7 +21,7 @@ use Rattle.lines.specs.SoundLaws.{closed-is}
 use Rattle.lines.specs.Watch.{isOpen, seesRise}
 use Rattle.lines.specs.declared.state.State.{State}
 use Rattle.lines.specs.declared.state.Moved.{Moved}
-use Rattle.chip.specs.Event.{accepted, csTo, sckTo, siTo, holdTo, csStayed, wpTo, vddTo, live, dark, step, event}
+use Rattle.chip.specs.Event.{accepted, csTo, sckTo, holdTo, csStayed, vddTo, live, dark, step, event}
 use Rattle.chip.specs.EventLaws.{accepted-steps}
 use Rattle.chip.specs.declared.event.Stepped.{Stepped}
 
@@ -113,14 +113,6 @@ module _ (f : Figure) (xs : List ℕ) (s : State) where
   hold-passes false =
       choose Steps (holdHigh (s .hold)) (choose Steps (s .sck) stays (still (s .sck), same)) stays
 
-  si-passes : (level : Bool) → Moves (siTo s level)
-  si-passes true = (still (s .sck), same)
-  si-passes false = (still (s .sck), same)
-
-  wp-passes : (level : Bool) → Moves (wpTo s level)
-  wp-passes true = (still (s .sck), same)
-  wp-passes false = (still (s .sck), same)
-
   vdd-passes : (level : Bool) → Moves (vddTo s level)
   vdd-passes true = stays
   vdd-passes false = (never (not (s .sck)), closes)
@@ -131,9 +123,9 @@ module _ (f : Figure) (xs : List ℕ) (s : State) where
       choose Steps (s .power)
       (choose Steps (eqb (code / 2) 0) (cs-passes level)
       (choose-on Steps (eqb (code / 2) 1) (λ e. falls-only level refl e)
-      (choose Steps (eqb (code / 2) 2) (si-passes level)
+      (choose Steps (eqb (code / 2) 2) (still (s .sck), same)
       (choose Steps (eqb (code / 2) 3) (hold-passes level)
-      (choose Steps (eqb (code / 2) 4) (wp-passes level)
+      (choose Steps (eqb (code / 2) 4) (still (s .sck), same)
       (vdd-passes level))))))
       (choose Moves (eqb code 11) (never (not (s .sck)), closes) stays)
     where
