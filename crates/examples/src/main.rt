@@ -1,48 +1,38 @@
-// Calls of the chip, one by one, as the file `stdin` says, and what each answers: document 01's examples 13 and 15, and
-// what a trace cannot show, as notes, reasons, refusals 2, 4 and 5 and what stands after a refusal. Each line of the file
-// `stdout` was worked out by hand; the comment above the calls says why.
+// Calls of the chip, one by one, as the file `stdin` says, and what each answers: document 01's examples 13, 14 and 15, and
+// what a trace cannot show, as notes, refusals 2, 4 and 5 and what stands after a refusal. Each line of the file `stdout`
+// was worked out by hand; the comment above the calls says why.
 //
-// A line of the input is a comment, `# ..`; a title, `= ..`, which is printed; or a letter and hex numbers, for each of
+// A line of the input is a comment, `# ..`; a title, `== ..`, which is printed; or a letter and hex numbers, for each of
 // which the letter is done in turn:
-//   k, l, a   the kept bits of a power-up, the length of the array that is lent, the lender's address, from here on
+//   k, l      the kept bits of a power-up, the length of the array that is lent, from here on
 //   u, f      power-up of this part; the fill of the array for this part
 //   v, b      this event, this data byte as 24 events; nothing is printed
-//   e, d      this event; this data byte, of which the eighth rise is printed
-//   w, r      the lender writes this byte at its address; the byte at this address
-//   P, K, T   the state with this part, with these kept bits, with this field turned: 1 SCK, 2 SI, 4 /WP, 5 VDD, 6 the latch
-//   S         the state in an op-code of which this many bits came (times 256), with this value
-use chip::event::Answer;
+//   e         this event
+//   w, r      the lender writes this byte at address 0; the byte at this address
+//   S         the state in an op-code of which these bits came, with the 1 before them
 use chip::event::event;
-use chip::power::Powered;
 use chip::power::fill;
 use chip::power::power_up;
 use libc::STDIN_FILENO;
 use libc::STDOUT_FILENO;
-use lines::hold::Hold;
+use lines::hold::hold_high;
 use lines::state::State;
-use parts::guards::Reason;
 use select::notes::Level;
 use select::notes::Note;
-use stages::stage::Shift;
-use stages::stage::Source;
+use stages::stage::Came;
+use stages::stage::End;
+use stages::stage::Line;
+use stages::stage::Purpose;
 use stages::stage::Stage;
+use stages::stage::What;
 
-// Where the next byte of the input stands: at a line's start, in a comment, in a title, or in a letter's numbers.
-enum Place {
-    Start,
-    Comment,
-    Title,
-    Numbers,
-}
-
+// The line's letter, 0 at its start; the number so far; what is set for the calls; and the chip.
 struct Desk {
-    place: Place,
     letter: u8,
     digits: bool,
     number: u64,
     kept: u64,
     len: usize,
-    at: usize,
     chip: State,
 }
 
@@ -55,13 +45,11 @@ fn main() {
 
 fn calls(text: &[u8], array: &mut [u8]) {
     let mut desk = Desk {
-        place: Place::Start,
         letter: 0,
         digits: false,
         number: 0,
         kept: 0,
         len: 512,
-        at: 0,
         chip: State::at_rest(1, 0, false),
     };
     let mut i = 0;
@@ -73,60 +61,18 @@ fn calls(text: &[u8], array: &mut [u8]) {
 
 // After one more byte of the input.
 fn take(desk: Desk, array: &mut [u8], b: u8) -> Desk {
-    let place = desk.place;
-    match place {
-        Place::Start => first(desk, b),
-        Place::Comment => {
-            if b == b'\n' {
-                return Desk {
-                    place: Place::Start,
-                    ..desk
-                };
-            }
-            desk
-        }
-        Place::Title => {
-            say(&[b]);
-            if b == b'\n' {
-                return Desk {
-                    place: Place::Start,
-                    ..desk
-                };
-            }
-            desk
-        }
-        Place::Numbers => numbers(desk, array, b),
+    let letter = if desk.letter == 0 { b } else { desk.letter };
+    if letter == b'=' {
+        say(&[b]);
     }
-}
-
-// A line's first byte.
-fn first(desk: Desk, b: u8) -> Desk {
-    match b {
-        b'\n' => desk,
-        b'#' => Desk {
-            place: Place::Comment,
-            ..desk
-        },
-        b'=' => {
-            say(b"==");
-            Desk {
-                place: Place::Title,
-                ..desk
-            }
-        }
-        _ => Desk {
-            place: Place::Numbers,
-            letter: b,
-            digits: false,
-            number: 0,
-            ..desk
-        },
-    }
-}
-
-// A digit of a number, or what ends it.
-fn numbers(desk: Desk, array: &mut [u8], b: u8) -> Desk {
+    let next = if b == b'\n' { 0 } else { letter };
     let digit = digit(b);
+    if (desk.letter == 0) | (letter == b'#') | (letter == b'=') {
+        return Desk {
+            letter: next,
+            ..desk
+        };
+    }
     if digit < 16 {
         return Desk {
             digits: true,
@@ -134,27 +80,12 @@ fn numbers(desk: Desk, array: &mut [u8], b: u8) -> Desk {
             ..desk
         };
     }
-    if desk.digits {
-        return ended(call(desk, array, desk.number), b);
-    }
-    ended(desk, b)
-}
-
-// After a number, at a space or the line's end.
-fn ended(desk: Desk, b: u8) -> Desk {
-    if b == b'\n' {
-        return Desk {
-            place: Place::Start,
-            ..desk
-        };
-    }
-    if b != b' ' {
-        say(b"? no number\n");
-    }
+    let after = lend(desk, array);
     Desk {
+        letter: next,
         digits: false,
         number: 0,
-        ..desk
+        ..after
     }
 }
 
@@ -167,9 +98,19 @@ fn digit(b: u8) -> u64 {
     }
 }
 
-// A letter's call with one number.
+// At a number's end: its call, over as many bytes of the array as are lent.
+fn lend(desk: Desk, array: &mut [u8]) -> Desk {
+    if desk.len <= array.len() {
+        return call(desk, &mut array[..desk.len], desk.number);
+    }
+    desk
+}
+
+// A letter's call with one number, if there was a digit.
 fn call(desk: Desk, array: &mut [u8], n: u64) -> Desk {
-    let chip = desk.chip;
+    if !desk.digits {
+        return desk;
+    }
     let letter = desk.letter;
     match letter {
         b'k' => Desk { kept: n, ..desk },
@@ -177,12 +118,10 @@ fn call(desk: Desk, array: &mut [u8], n: u64) -> Desk {
             len: n as usize,
             ..desk
         },
-        b'a' => Desk {
-            at: n as usize,
-            ..desk
-        },
         b'w' => {
-            lend(array, desk.at, (n % 256) as u8);
+            if 0 < array.len() {
+                array[0] = (n % 256) as u8;
+            }
             desk
         }
         b'r' => {
@@ -190,46 +129,30 @@ fn call(desk: Desk, array: &mut [u8], n: u64) -> Desk {
             desk
         }
         b'f' => {
-            tell_fill(array, desk.len, n);
+            say_number(b"fill: refused ", wide(fill(n, array)));
+            say(b"\n");
             desk
         }
-        b'u' => Desk {
-            chip: tell_power_up(array, desk.len, n, desk.kept),
-            ..desk
-        },
         _ => Desk {
-            chip: move_chip(letter, chip, array, desk.len, n),
+            chip: move_chip(desk, array, n),
             ..desk
         },
     }
 }
 
 // A letter that moves the chip, or puts it into another state.
-fn move_chip(letter: u8, chip: State, array: &mut [u8], len: usize, n: u64) -> State {
+fn move_chip(desk: Desk, array: &mut [u8], n: u64) -> State {
+    let chip = desk.chip;
+    let letter = desk.letter;
     match letter {
-        b'v' => send(chip, array, len, n),
-        b'e' => tell_event(chip, array, len, n),
-        b'b' => {
-            let seven = send_seven(chip, array, len, (n % 256) as u8);
-            let eight = send(seven, array, len, 3);
-            send(eight, array, len, 2)
-        }
-        b'd' => {
-            let seven = send_seven(chip, array, len, (n % 256) as u8);
-            let eight = tell_event(seven, array, len, 3);
-            send(eight, array, len, 2)
-        }
-        b'P' => State {
-            part: (n % 256) as u8,
-            ..chip
-        },
-        b'K' => State {
-            kept: (n % 256) as u8,
-            ..chip
-        },
-        b'T' => turned(chip, n),
+        b'u' => tell_power_up(array, n, desk.kept),
+        b'v' => send(chip, array, n),
+        b'b' => send_byte(chip, array, (n % 256) as u8),
+        b'e' => tell_event(chip, array, n),
         b'S' => State {
-            stage: op_code(n),
+            stage: Stage::Code {
+                shift: (n % 65536) as u16,
+            },
             ..chip
         },
         _ => {
@@ -239,70 +162,24 @@ fn move_chip(letter: u8, chip: State, array: &mut [u8], len: usize, n: u64) -> S
     }
 }
 
-fn turned(chip: State, field: u64) -> State {
-    match field {
-        1 => State {
-            sck: !chip.sck,
-            ..chip
-        },
-        2 => State {
-            si: !chip.si,
-            ..chip
-        },
-        4 => State {
-            wp: !chip.wp,
-            ..chip
-        },
-        5 => State {
-            power: !chip.power,
-            ..chip
-        },
-        _ => State {
-            latch: !chip.latch,
-            ..chip
-        },
-    }
-}
-
-fn op_code(n: u64) -> Stage {
-    Stage::Code(Shift {
-        bits: (n / 256 % 256) as u8,
-        byte: (n % 256) as u8,
-    })
-}
-
-// The event on the first `len` bytes of the array.
-fn ask(chip: State, array: &mut [u8], len: usize, code: u64) -> Answer {
-    if len <= array.len() {
-        return event(chip, &mut array[..len], code);
-    }
-    event(chip, array, code)
-}
-
-fn send(chip: State, array: &mut [u8], len: usize, code: u64) -> State {
-    let answer = ask(chip, array, len, code);
+fn send(chip: State, array: &mut [u8], code: u64) -> State {
+    let answer = event(chip, array, code);
     answer.state
 }
 
-// Seven bits of a byte, and the level of the eighth.
-fn send_seven(start: State, array: &mut [u8], len: usize, byte: u8) -> State {
+// "clocked in as eight times SI, SCK up, SCK down"
+fn send_byte(start: State, array: &mut [u8], byte: u8) -> State {
     let mut chip = start;
     let mut left = byte;
     let mut k: u8 = 0;
-    while k < 7 {
-        chip = send(chip, array, len, if left < 0x80 { 4 } else { 5 });
-        chip = send(chip, array, len, 3);
-        chip = send(chip, array, len, 2);
+    while k < 8 {
+        chip = send(chip, array, if left < 0x80 { 4 } else { 5 });
+        chip = send(chip, array, 3);
+        chip = send(chip, array, 2);
         left = left << 1;
         k += 1;
     }
-    send(chip, array, len, if left < 0x80 { 4 } else { 5 })
-}
-
-fn lend(array: &mut [u8], at: usize, byte: u8) {
-    if at < array.len() {
-        array[at] = byte;
-    }
+    chip
 }
 
 fn say(text: &[u8]) {
@@ -322,14 +199,7 @@ fn say_level(level: Level) {
     }
 }
 
-fn number_of(reason: Reason) -> u64 {
-    match reason {
-        Reason::LatchOff => 1,
-        Reason::Protect => 2,
-        Reason::Block => 3,
-    }
-}
-
+// Reasons are left to the computed examples of the crate chip.
 fn say_note(note: Note) {
     match note {
         Note::Nothing => say(b", nothing"),
@@ -338,99 +208,84 @@ fn say_note(note: Note) {
             say_number(b", stored ", at as u64);
             say_number(b" ", byte as u64);
         }
-        Note::HeldBack(at, reason) => {
-            say_number(b", held back ", at as u64);
-            say_number(b" ", number_of(reason));
-        }
+        Note::HeldBack(at, _) => say_number(b", held back ", at as u64),
         Note::KeptSet(kept) => say_number(b", kept bits set ", kept as u64),
-        Note::KeptHeldBack(reason) => say_number(b", kept bits held back ", number_of(reason)),
+        Note::KeptHeldBack(_) => say(b", kept bits held back"),
         Note::PowerLost => say(b", power lost"),
     }
 }
 
-// A stage in numbers, so that two can be compared.
+// A stage in numbers, so that two can be compared: one kind for each case of it and of what it holds.
 struct Stamp {
     kind: u8,
-    bits: u8,
-    byte: u8,
-    flag: bool,
+    bits: u16,
     at: usize,
 }
 
-fn stamped(kind: u8, shift: Shift, flag: bool, at: usize) -> Stamp {
-    Stamp {
-        kind,
-        bits: shift.bits,
-        byte: shift.byte,
-        flag,
-        at,
-    }
-}
-
-fn place_of(source: Source) -> usize {
-    match source {
-        Source::Array(at) => at,
-        Source::Status => 0xFFFF_FFFF,
-    }
+fn stamped(kind: u8, bits: u16, at: usize) -> Stamp {
+    Stamp { kind, bits, at }
 }
 
 fn stamp_of(stage: Stage) -> Stamp {
-    let none = Shift { bits: 0, byte: 0 };
     match stage {
-        Stage::Closed => stamped(0, none, false, 0),
-        Stage::Code(shift) => stamped(1, shift, false, 0),
-        Stage::Upper(upper) => stamped(2, upper.shift, upper.write, 0),
-        Stage::Lower(lower) => stamped(3, lower.shift, lower.write, lower.page as usize),
-        Stage::Ready(source) => stamped(4, none, false, place_of(source)),
-        Stage::Showing(shown) => {
-            let source = shown.source;
-            let bit = Shift {
-                bits: shown.bit,
-                byte: 0,
-            };
-            stamped(5, bit, shown.level, place_of(source))
-        }
-        Stage::Writing(writer) => stamped(6, writer.shift, writer.whole, writer.at),
-        Stage::Keeping(shift) => stamped(7, shift, false, 0),
-        Stage::Over(whole) => stamped(8, none, whole, 0),
+        Stage::Closed => stamped(0, 0, 0),
+        Stage::Code { shift } => stamped(1, shift, 0),
+        Stage::Upper { purpose, shift } => match purpose {
+            Purpose::ToRead => stamped(2, shift, 0),
+            Purpose::ToWrite => stamped(3, shift, 0),
+        },
+        Stage::Lower {
+            purpose,
+            shift,
+            page,
+        } => match purpose {
+            Purpose::ToRead => stamped(4, shift, page as usize),
+            Purpose::ToWrite => stamped(5, shift, page as usize),
+        },
+        Stage::Ready { what, at } => match what {
+            What::Array => stamped(6, 0, at),
+            What::Status => stamped(7, 0, at),
+        },
+        Stage::ArrayOut { level, bit, at } => match level {
+            Line::Down => stamped(8, bit, at),
+            Line::Up => stamped(9, bit, at),
+        },
+        Stage::StatusOut { level, bit } => match level {
+            Line::Down => stamped(10, bit, 0),
+            Line::Up => stamped(11, bit, 0),
+        },
+        Stage::Writing { came, shift, at } => match came {
+            Came::NoByte => stamped(12, shift, at),
+            Came::Bytes => stamped(13, shift, at),
+        },
+        Stage::Keeping { shift } => stamped(14, shift, 0),
+        Stage::Over { end } => match end {
+            End::Quiet => stamped(15, 0, 0),
+            End::Drops => stamped(16, 0, 0),
+        },
     }
 }
 
-fn same_stage(a: Stage, b: Stage) -> bool {
-    let x = stamp_of(a);
-    let y = stamp_of(b);
-    (x.kind == y.kind)
-        & (x.bits == y.bits)
-        & (x.byte == y.byte)
-        & (x.flag == y.flag)
-        & (x.at == y.at)
-}
-
-fn hold_number(hold: Hold) -> u8 {
-    match hold {
-        Hold::High => 0,
-        Hold::LowCsLow => 1,
-        Hold::LowCsHigh => 2,
-    }
-}
-
-// Whether two states are the same, field by field.
+// Whether two states are the same, field by field; /HOLD low has its level of /CS besides.
 fn same(a: State, b: State) -> bool {
-    let fields = (a.part == b.part)
-        & (a.kept == b.kept)
-        & (a.power == b.power)
-        & (a.latch == b.latch);
-    let lines = (a.sck == b.sck) & (a.si == b.si) & (a.wp == b.wp);
     let hold_a = a.hold;
     let hold_b = b.hold;
     let stage_a = a.stage;
     let stage_b = b.stage;
-    fields & lines & (hold_number(hold_a) == hold_number(hold_b)) & same_stage(stage_a, stage_b)
+    let x = stamp_of(stage_a);
+    let y = stamp_of(stage_b);
+    let fields = (a.part == b.part)
+        & (a.kept == b.kept)
+        & (a.power == b.power)
+        & (a.latch == b.latch);
+    let lines = (a.sck == b.sck) & (a.si == b.si) & (a.wp == b.wp) & (a.cs() == b.cs());
+    let stages = (x.kind == y.kind) & (x.bits == y.bits) & (x.at == y.at);
+    fields & lines & (hold_high(hold_a) == hold_high(hold_b)) & stages
 }
 
 // A line for an event, and the state after it.
-fn tell_event(chip: State, array: &mut [u8], len: usize, code: u64) -> State {
-    let answer = ask(chip, array, len, code);
+fn tell_event(chip: State, array: &mut [u8], code: u64) -> State {
+    let answer = event(chip, array, code);
     let so = answer.so;
     let note = answer.note;
     let state = answer.state;
@@ -446,16 +301,9 @@ fn tell_event(chip: State, array: &mut [u8], len: usize, code: u64) -> State {
     state
 }
 
-fn power(array: &[u8], len: usize, part: u64, kept: u64) -> Powered {
-    if len <= array.len() {
-        return power_up(part, kept, &array[..len]);
-    }
-    power_up(part, kept, array)
-}
-
 // A line for a power-up, and the state after it.
-fn tell_power_up(array: &[u8], len: usize, part: u64, kept: u64) -> State {
-    let powered = power(array, len, part, kept);
+fn tell_power_up(array: &[u8], part: u64, kept: u64) -> State {
+    let powered = power_up(part, kept, array);
     let chip = powered.state;
     say_number(b"power-up: refused ", powered.refusal as u64);
     say_number(b", part ", chip.part as u64);
@@ -466,19 +314,6 @@ fn tell_power_up(array: &[u8], len: usize, part: u64, kept: u64) -> State {
         say(b" off\n");
     }
     chip
-}
-
-fn fill_lent(array: &mut [u8], len: usize, part: u64) -> u8 {
-    if len <= array.len() {
-        return fill(part, &mut array[..len]);
-    }
-    fill(part, array)
-}
-
-fn tell_fill(array: &mut [u8], len: usize, part: u64) {
-    let refusal = fill_lent(array, len, part);
-    say_number(b"fill: refused ", wide(refusal));
-    say(b"\n");
 }
 
 fn wide(byte: u8) -> u64 {

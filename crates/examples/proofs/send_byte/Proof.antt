@@ -1,19 +1,19 @@
--- The loop counts seven bits; the array keeps its length.
+-- The loop counts eight bits; the array keeps its length.
 use mathlib.Core.Path.{_≡_}
 use Prim.Native.Nat.{_-_}
 use lib.ListN.{length}
 use borrow.Author.Needs.{needs}
-use Rattle.examples.proofs.send_seven.Statement.{statement}
-use Rattle.examples.proofs.send_seven.Tie as tie
+use Rattle.examples.proofs.send_byte.Statement.{statement}
+use Rattle.examples.proofs.send_byte.Tie as tie
 
 abbrev Inv-loop : tie.InvT-loop
-Inv-loop array₀ len byte chip₀ left₀ k₀ array chip left k = length array ≡ length array₀
+Inv-loop array₀ byte chip₀ left₀ k₀ array chip left k = length array ≡ length array₀
 
 abbrev μ-loop : tie.MeasureT-loop
-μ-loop array₀ len byte chip₀ left₀ k₀ array chip left k = 7 - k
+μ-loop array₀ byte chip₀ left₀ k₀ array chip left k = 8 - k
 
-pub send-seven-spec : {M : Type 1} → statement M
-send-seven-spec =
+pub send-byte-spec : {M : Type 1} → statement M
+send-byte-spec =
     tie.close
     (tie.spec
     Inv-loop
@@ -25,6 +25,5 @@ send-seven-spec =
     (λ c. search needs)
     (λ c. search needs)
     (λ c. search needs)
-    (λ c κs. search needs)
     (λ c. search needs)
     (λ c. search needs))
