@@ -18,15 +18,6 @@ abbrev μ-loop : tie.MeasureT-loop
 loop-holds : tie.Need-loop-holds Inv-loop μ-loop
 loop-holds c = tt
 
-number-at-requires : tie.Need-number-at-requires Inv-loop μ-loop
-number-at-requires c κs = search needs
-
-enum-known-value : tie.Need-enum-known-value Inv-loop μ-loop
-enum-known-value c = search needs
-
-number-line-requires : tie.Need-number-line-requires Inv-loop μ-loop
-number-line-requires c κs = search needs
-
 loop-less : tie.Need-loop-less Inv-loop μ-loop
 loop-less c =
     let s = c .before .before .before .before .before .before .before .args .s .now in
@@ -37,24 +28,6 @@ loop-less c =
 loop-again : tie.Need-loop-again Inv-loop μ-loop
 loop-again c = tt
 
-enum-known-place : tie.Need-enum-known-place Inv-loop μ-loop
-enum-known-place c = search needs
-
-end-line-requires : tie.Need-end-line-requires Inv-loop μ-loop
-end-line-requires c κs = search needs
-
-returns : tie.Need-returns Inv-loop μ-loop
-returns c = search needs
-
-enum-known-refusal : tie.Need-enum-known-refusal Inv-loop μ-loop
-enum-known-refusal c = search needs
-
-refusal-line-requires : tie.Need-refusal-line-requires Inv-loop μ-loop
-refusal-line-requires c κs = search needs
-
-returns-2 : tie.Need-returns-2 Inv-loop μ-loop
-returns-2 c = search needs
-
 pub list-spec : {M : Type 1} → statement M
 list-spec =
     tie.close
@@ -62,14 +35,14 @@ list-spec =
     Inv-loop
     μ-loop
     loop-holds
-    number-at-requires
-    enum-known-value
-    number-line-requires
+    (λ c κs. search needs)
+    (λ c. search needs)
+    (λ c κs. search needs)
     loop-less
     loop-again
-    enum-known-place
-    end-line-requires
-    returns
-    enum-known-refusal
-    refusal-line-requires
-    returns-2)
+    (λ c. search needs)
+    (λ c κs. search needs)
+    (λ c. search needs)
+    (λ c. search needs)
+    (λ c κs. search needs)
+    (λ c. search needs))

@@ -5,19 +5,13 @@ use borrow.Author.Needs.{needs}
 use Rattle.bench.proofs.head.head_of.Statement.{statement}
 use Rattle.bench.proofs.head.head_of.Tie as tie
 
-lead-at-requires : tie.Need-lead-at-requires
-lead-at-requires c κs = search needs
-
 returns : tie.Need-returns
 unfolding headOf
 returns c = simp (← c .before .before .lead-at .ensures, ne-eqb _ _ (c .if1 .taken))
-
-lead-at-requires-2 : tie.Need-lead-at-requires-2
-lead-at-requires-2 c κs = search needs
 
 returns-2 : tie.Need-returns-2
 unfolding headOf
 returns-2 c = simp (c .lead-at2 .ensures, ← c .before .before .before .lead-at .ensures, eq-eqb _ _ (c .before .if1 .left))
 
 pub head-of-spec : {M : Type 1} → statement M
-head-of-spec = tie.close (tie.spec lead-at-requires returns lead-at-requires-2 returns-2)
+head-of-spec = tie.close (tie.spec (λ c κs. search needs) returns (λ c κs. search needs) returns-2)

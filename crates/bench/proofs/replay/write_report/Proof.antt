@@ -4,31 +4,19 @@ use borrow.Author.Needs.{needs}
 use Rattle.bench.proofs.replay.write_report.Statement.{statement}
 use Rattle.bench.proofs.replay.write_report.Tie as tie
 
-report-requires : tie.Need-report-requires
-report-requires c κs = search needs
-
 slice-reshare-prefix-write-all : tie.Need-slice-reshare-prefix-write-all
 slice-reshare-prefix-write-all c = print-fits _ _ _ (c .before .before .report .ensures) .0
 
 slice-aggregate-write-all : tie.Need-slice-aggregate-write-all
 slice-aggregate-write-all c = print-fits _ _ _ (c .before .before .before .report .ensures) .1
 
-write-all-requires : tie.Need-write-all-requires
-write-all-requires c κs = search needs
-
-same-length : tie.Need-same-length
-same-length c = search needs
-
-returns : tie.Need-returns
-returns c = search needs
-
 pub write-report-spec : {M : Type 1} → statement M
 write-report-spec =
     tie.close
     (tie.spec
-    report-requires
+    (λ c κs. search needs)
     slice-reshare-prefix-write-all
     slice-aggregate-write-all
-    write-all-requires
-    same-length
-    returns)
+    (λ c κs. search needs)
+    (λ c. search needs)
+    (λ c. search needs))

@@ -10,32 +10,14 @@ use borrow.Author.Needs.{needs}
 use Rattle.bench.proofs.run.run_whole.Statement.{statement}
 use Rattle.bench.proofs.run.run_whole.Tie as tie
 
-head-of-requires : tie.Need-head-of-requires
-head-of-requires c κs = search needs
-
-at-rest-requires : tie.Need-at-rest-requires
-at-rest-requires c κs = search needs
-
-new-requires : tie.Need-new-requires
-new-requires c κs = search needs
-
 returns : tie.Need-returns
 returns c = whole _ _ _ _ _ _ (replayed-not _ _ _ _ _ (c .before .before .before .before .head-of .ensures) (c .before .before .if1 .taken) (c .new .ensures ∙ ap begun (c .before .at-rest .ensures)))
-
-figure-of-requires : tie.Need-figure-of-requires
-figure-of-requires c κs = search needs
 
 array-borrow-prefix-array : tie.Need-array-borrow-prefix-array
 array-borrow-prefix-array c = rw (c .figure-of .ensures) (largest _)
 
 slice-aggregate-run : tie.Need-slice-aggregate-run
 slice-aggregate-run c = sym (length-take-le _ _ (rw (c .before .figure-of .ensures) (largest _)))
-
-run-requires : tie.Need-run-requires
-run-requires c κs = search needs
-
-same-length : tie.Need-same-length
-same-length c = search needs
 
 returns-2 : tie.Need-returns-2
 returns-2 c =
@@ -46,13 +28,13 @@ pub run-whole-spec : {M : Type 1} → statement M
 run-whole-spec =
     tie.close
     (tie.spec
-    head-of-requires
-    at-rest-requires
-    new-requires
+    (λ c κs. search needs)
+    (λ c κs. search needs)
+    (λ c κs. search needs)
     returns
-    figure-of-requires
+    (λ c κs. search needs)
     array-borrow-prefix-array
     slice-aggregate-run
-    run-requires
-    same-length
+    (λ c κs. search needs)
+    (λ c. search needs)
     returns-2)

@@ -21,42 +21,15 @@ Inv-loop array₀ shown₀ out₀ item events turn₀ k₀ array shown out turn 
 abbrev μ-loop : tie.MeasureT-loop
 μ-loop array₀ shown₀ out₀ item events turn₀ k₀ array shown out turn k = events - k
 
-events-of-requires : tie.Need-events-of-requires Inv-loop μ-loop
-events-of-requires c κs = search needs
-
 loop-holds : tie.Need-loop-holds Inv-loop μ-loop
 loop-holds c = (refl, refl, refl)
-
-same-length : tie.Need-same-length Inv-loop μ-loop
-same-length c = search needs
-
-same-length-2 : tie.Need-same-length-2 Inv-loop μ-loop
-same-length-2 c = search needs
 
 returns : tie.Need-returns Inv-loop μ-loop
 unfolding afterItem
 returns c = events-end (drop (c .before .before .before .loop .k) (itemEvents _)) _ _ _ _ (c .if1 .taken) ∙ c .before .before .before .loop .inv .2
 
-event-of-requires : tie.Need-event-of-requires Inv-loop μ-loop
-event-of-requires c κs = search needs
-
-take-event-requires : tie.Need-take-event-requires Inv-loop μ-loop
-take-event-requires c κs = search needs
-
-add-k : tie.Need-add-k Inv-loop μ-loop
-add-k c = search needs
-
-loop-less : tie.Need-loop-less Inv-loop μ-loop
-loop-less c = search needs
-
 loop-again : tie.Need-loop-again Inv-loop μ-loop
 loop-again c = (search needs, search needs, events-on _ _ _ _ _ _ _ _ _ _ _ _ (c .before .before .before .before .before .before .before .before .before .before .before .before .before .events-of .ensures) (c .before .before .before .before .before .before .before .before .before .before .before .loop-test .taken) (c .before .before .before .before .before .event-of .ensures) (c .before .before .before .before .before .before .before .before .before .if1 .left) (c .before .before .before .before .take-event .ensures) ∙ c .before .before .before .before .before .before .before .before .before .before .before .before .loop .inv .2)
-
-same-length-3 : tie.Need-same-length-3 Inv-loop μ-loop
-same-length-3 c = search needs
-
-same-length-4 : tie.Need-same-length-4 Inv-loop μ-loop
-same-length-4 c = search needs
 
 returns-2 : tie.Need-returns-2 Inv-loop μ-loop
 unfolding afterItem
@@ -68,16 +41,16 @@ take-item-spec =
     (tie.spec
     Inv-loop
     μ-loop
-    events-of-requires
+    (λ c κs. search needs)
     loop-holds
-    same-length
-    same-length-2
+    (λ c. search needs)
+    (λ c. search needs)
     returns
-    event-of-requires
-    take-event-requires
-    add-k
-    loop-less
+    (λ c κs. search needs)
+    (λ c κs. search needs)
+    (λ c. search needs)
+    (λ c. search needs)
     loop-again
-    same-length-3
-    same-length-4
+    (λ c. search needs)
+    (λ c. search needs)
     returns-2)

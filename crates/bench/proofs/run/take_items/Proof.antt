@@ -25,53 +25,17 @@ abbrev μ-loop : tie.MeasureT-loop
 loop-holds : tie.Need-loop-holds Inv-loop μ-loop
 loop-holds c = (refl, refl, refl)
 
-number-at-requires : tie.Need-number-at-requires Inv-loop μ-loop
-number-at-requires c κs = search needs
-
-enum-known-value : tie.Need-enum-known-value Inv-loop μ-loop
-enum-known-value c = search needs
-
-take-item-requires : tie.Need-take-item-requires Inv-loop μ-loop
-take-item-requires c κs = search needs
-
 loop-less : tie.Need-loop-less Inv-loop μ-loop
 loop-less c = omega (arith, moves _ _ _ _ _ (c .before .before .before .before .before .before .before .before .before .before .before .number-at .ensures) (c .before .before .before .before .before .before .before .before .before .value .given .1))
 
 loop-again : tie.Need-loop-again Inv-loop μ-loop
 loop-again c = (search needs, search needs, ran-number _ _ _ _ _ _ _ (c .before .before .before .before .before .before .before .before .before .before .before .number-at .ensures) _ _ _ _ _ _ (c .before .before .before .before .before .before .before .before .before .value .given .1) (c .before .before .before .before .take-item .ensures) ∙ c .before .before .before .before .before .before .before .before .before .before .before .before .before .before .loop .inv .2)
 
-enum-told : tie.Need-enum-told Inv-loop μ-loop
-enum-told c = search needs
-
-same-length : tie.Need-same-length Inv-loop μ-loop
-same-length c = search needs
-
-same-length-2 : tie.Need-same-length-2 Inv-loop μ-loop
-same-length-2 c = search needs
-
 returns : tie.Need-returns Inv-loop μ-loop
 returns c = ran-end _ _ _ _ _ _ _ (c .before .before .number-at .ensures) _ (c .before .before .before .if1 .taken) (c .enum-told .given .1) ∙ c .before .before .before .before .before .loop .inv .2
 
-enum-known-refusal : tie.Need-enum-known-refusal Inv-loop μ-loop
-enum-known-refusal c = search needs
-
-number-of-requires : tie.Need-number-of-requires Inv-loop μ-loop
-number-of-requires c κs = search needs
-
-same-length-3 : tie.Need-same-length-3 Inv-loop μ-loop
-same-length-3 c = search needs
-
-same-length-4 : tie.Need-same-length-4 Inv-loop μ-loop
-same-length-4 c = search needs
-
 returns-2 : tie.Need-returns-2 Inv-loop μ-loop
 returns-2 c = ran-refused _ _ _ _ _ _ _ (c .before .before .before .before .number-at .ensures) _ _ _ (c .before .before .before .before .before .if1 .taken) (c .before .before .refusal .given .1) (c .number-of .ensures) ∙ c .before .before .before .before .before .before .before .loop .inv .2
-
-same-length-5 : tie.Need-same-length-5 Inv-loop μ-loop
-same-length-5 c = search needs
-
-same-length-6 : tie.Need-same-length-6 Inv-loop μ-loop
-same-length-6 c = search needs
 
 returns-3 : tie.Need-returns-3 Inv-loop μ-loop
 returns-3 c = ran-stays _ _ _ _ _ _ (c .if1 .left) ∙ c .before .before .loop .inv .2
@@ -83,20 +47,20 @@ take-items-spec =
     Inv-loop
     μ-loop
     loop-holds
-    number-at-requires
-    enum-known-value
-    take-item-requires
+    (λ c κs. search needs)
+    (λ c. search needs)
+    (λ c κs. search needs)
     loop-less
     loop-again
-    enum-told
-    same-length
-    same-length-2
+    (λ c. search needs)
+    (λ c. search needs)
+    (λ c. search needs)
     returns
-    enum-known-refusal
-    number-of-requires
-    same-length-3
-    same-length-4
+    (λ c. search needs)
+    (λ c κs. search needs)
+    (λ c. search needs)
+    (λ c. search needs)
     returns-2
-    same-length-5
-    same-length-6
+    (λ c. search needs)
+    (λ c. search needs)
     returns-3)

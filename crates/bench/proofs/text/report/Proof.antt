@@ -5,17 +5,8 @@ use borrow.Author.Needs.{needs}
 use Rattle.bench.proofs.text.report.Statement.{statement}
 use Rattle.bench.proofs.text.report.Tie as tie
 
-run-whole-requires : tie.Need-run-whole-requires
-run-whole-requires c κs = search needs
-
-print-last-requires : tie.Need-print-last-requires
-print-last-requires c κs = search needs
-
-same-length : tie.Need-same-length
-same-length c = search needs
-
 returns : tie.Need-returns
 returns c = report-whole _ _ _ _ _ _ _ refl (c .before .before .before .before .before .before .before .run-whole .ensures .0) (c .before .before .before .before .before .before .before .run-whole .ensures .1 .0) (c .before .before .before .before .before .before .before .run-whole .ensures .1 .1 .0) (c .before .before .before .before .before .before .before .run-whole .ensures .1 .1 .1) (c .before .before .print-last .ensures)
 
 pub report-spec : {M : Type 1} → statement M
-report-spec = tie.close (tie.spec run-whole-requires print-last-requires same-length returns)
+report-spec = tie.close (tie.spec (λ c κs. search needs) (λ c κs. search needs) (λ c. search needs) returns)

@@ -4,35 +4,11 @@ use borrow.Author.Needs.{needs}
 use Rattle.bench.proofs.turn.take_event.Statement.{statement}
 use Rattle.bench.proofs.turn.take_event.Tie as tie
 
-event-requires : tie.Need-event-requires
-event-requires c κs = search needs
-
-same-length : tie.Need-same-length
-same-length c = search needs
-
 returns : tie.Need-returns
 returns c = event-refused _ _ _ _ _ (c .before .before .before .before .before .event .result) _ (c .before .before .before .before .before .event .ensures .0) (c .before .before .before .before .before .event .ensures .1) (c .before .if1 .taken)
 
-after-requires : tie.Need-after-requires
-after-requires c κs = search needs
-
-closes-requires : tie.Need-closes-requires
-closes-requires c κs = search needs
-
-print-select-requires : tie.Need-print-select-requires
-print-select-requires c κs = search needs
-
-same-length-2 : tie.Need-same-length-2
-same-length-2 c = search needs
-
-same-length-3 : tie.Need-same-length-3
-same-length-3 c = search needs
-
 returns-2 : tie.Need-returns-2
 returns-2 c = event-closes _ _ _ _ _ _ _ (c .before .before .before .before .before .before .before .before .before .before .before .before .before .before .event .ensures .0) (c .before .before .before .before .before .before .before .before .before .before .before .before .before .before .event .ensures .1) _ _ (c .before .before .before .before .before .before .before .before .before .before .if1 .left) (c .before .before .before .before .before .before .before .after .ensures .0) (c .before .before .before .before .before .before .before .after .ensures .1) _ _ _ (c .before .before .before .before .before .before .closes .ensures) (c .before .before .before .before .before .if2 .taken) (c .before .before .print-select .ensures)
-
-same-length-4 : tie.Need-same-length-4
-same-length-4 c = search needs
 
 returns-3 : tie.Need-returns-3
 returns-3 c = event-goes-on _ _ _ _ _ _ _ (c .before .before .before .before .before .before .before .before .before .event .ensures .0) (c .before .before .before .before .before .before .before .before .before .event .ensures .1) _ _ (c .before .before .before .before .before .if1 .left) (c .before .before .after .ensures .0) (c .before .before .after .ensures .1) _ (c .before .closes .ensures) (c .if2 .left)
@@ -41,14 +17,14 @@ pub take-event-spec : {M : Type 1} → statement M
 take-event-spec =
     tie.close
     (tie.spec
-    event-requires
-    same-length
+    (λ c κs. search needs)
+    (λ c. search needs)
     returns
-    after-requires
-    closes-requires
-    print-select-requires
-    same-length-2
-    same-length-3
+    (λ c κs. search needs)
+    (λ c κs. search needs)
+    (λ c κs. search needs)
+    (λ c. search needs)
+    (λ c. search needs)
     returns-2
-    same-length-4
+    (λ c. search needs)
     returns-3)

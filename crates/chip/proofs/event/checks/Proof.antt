@@ -5,18 +5,9 @@ use borrow.Author.Needs.{needs}
 use Rattle.chip.proofs.event.checks.Statement.{statement}
 use Rattle.chip.proofs.event.checks.Tie as tie
 
-sound-requires : tie.Need-sound-requires
-sound-requires c κs = search needs
-
 returns : tie.Need-returns
 unfolding checks
 returns c = simp (← c .before .sound .ensures, c .if1 .taken)
-
-cast-figure-of : tie.Need-cast-figure-of
-cast-figure-of c = search needs
-
-figure-of-requires : tie.Need-figure-of-requires
-figure-of-requires c κs = search needs
 
 returns-2 : tie.Need-returns-2
 unfolding checks
@@ -34,10 +25,10 @@ pub checks-spec : {M : Type 1} → statement M
 checks-spec =
     tie.close
     (tie.spec
-    sound-requires
+    (λ c κs. search needs)
     returns
-    cast-figure-of
-    figure-of-requires
+    (λ c. search needs)
+    (λ c κs. search needs)
     returns-2
     returns-3
     returns-4)

@@ -4,12 +4,6 @@ use borrow.Author.Needs.{needs}
 use Rattle.chip.proofs.event.cs_stayed.Statement.{statement}
 use Rattle.chip.proofs.event.cs_stayed.Tie as tie
 
-cs-requires : tie.Need-cs-requires
-cs-requires c κs = search needs
-
-is-closed-requires : tie.Need-is-closed-requires
-is-closed-requires c κs = search needs
-
 returns : tie.Need-returns
 unfolding csStayed
 returns c = simp (← c .before .is-closed .ensures, ← c .before .before .cs .ensures, c .if1 .taken)
@@ -19,4 +13,4 @@ unfolding csStayed
 returns-2 c = simp (← c .before .is-closed .ensures, ← c .before .before .cs .ensures, c .if1 .left)
 
 pub cs-stayed-spec : {M : Type 1} → statement M
-cs-stayed-spec = tie.close (tie.spec cs-requires is-closed-requires returns returns-2)
+cs-stayed-spec = tie.close (tie.spec (λ c κs. search needs) (λ c κs. search needs) returns returns-2)

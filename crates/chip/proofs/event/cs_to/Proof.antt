@@ -3,21 +3,6 @@ use borrow.Author.Needs.{needs}
 use Rattle.chip.proofs.event.cs_to.Statement.{statement}
 use Rattle.chip.proofs.event.cs_to.Tie as tie
 
-cs-requires : tie.Need-cs-requires
-cs-requires c κs = search needs
-
-silent-requires : tie.Need-silent-requires
-silent-requires c κs = search needs
-
-cs-rise-requires : tie.Need-cs-rise-requires
-cs-rise-requires c κs = search needs
-
-cs-fall-requires : tie.Need-cs-fall-requires
-cs-fall-requires c κs = search needs
-
-silent-requires-2 : tie.Need-silent-requires-2
-silent-requires-2 c κs = search needs
-
 returns : tie.Need-returns
 returns c = simp (c .silent .ensures, ← c .before .before .before .cs .ensures, c .before .if2 .taken, c .before .before .if1 .taken)
 
@@ -34,11 +19,11 @@ pub cs-to-spec : {M : Type 1} → statement M
 cs-to-spec =
     tie.close
     (tie.spec
-    cs-requires
-    silent-requires
-    cs-rise-requires
-    cs-fall-requires
-    silent-requires-2
+    (λ c κs. search needs)
+    (λ c κs. search needs)
+    (λ c κs. search needs)
+    (λ c κs. search needs)
+    (λ c κs. search needs)
     returns
     returns-2
     returns-3

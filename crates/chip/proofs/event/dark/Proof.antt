@@ -4,18 +4,6 @@ use borrow.Author.Needs.{needs}
 use Rattle.chip.proofs.event.dark.Statement.{statement}
 use Rattle.chip.proofs.event.dark.Tie as tie
 
-vdd-rise-requires : tie.Need-vdd-rise-requires
-vdd-rise-requires c κs = search needs
-
-accept-requires : tie.Need-accept-requires
-accept-requires c κs = search needs
-
-silent-requires : tie.Need-silent-requires
-silent-requires c κs = search needs
-
-accept-requires-2 : tie.Need-accept-requires-2
-accept-requires-2 c κs = search needs
-
 returns : tie.Need-returns
 returns c = simp (c .accept .ensures, c .before .vdd-rise .ensures, c .before .before .if1 .taken)
 
@@ -26,9 +14,9 @@ pub dark-spec : {M : Type 1} → statement M
 dark-spec =
     tie.close
     (tie.spec
-    vdd-rise-requires
-    accept-requires
-    silent-requires
-    accept-requires-2
+    (λ c κs. search needs)
+    (λ c κs. search needs)
+    (λ c κs. search needs)
+    (λ c κs. search needs)
     returns
     returns-2)

@@ -10,36 +10,9 @@ use borrow.Author.Needs.{needs}
 use Rattle.chip.proofs.event.event.Statement.{statement}
 use Rattle.chip.proofs.event.event.Tie as tie
 
-checks-requires : tie.Need-checks-requires
-checks-requires c κs = search needs
-
-cast-figure-of : tie.Need-cast-figure-of
-cast-figure-of c = search needs
-
-figure-of-requires : tie.Need-figure-of-requires
-figure-of-requires c κs = search needs
-
 cast-step : tie.Need-cast-step
 cast-step c =
     record { fits = lt-of-lt-of-le (checks-passed _ _ _ (sym (c .before .before .before .before .checks .ensures) ∙ c .before .before .before .if1 .taken) .2) (lit≤ tt) }
-
-step-requires : tie.Need-step-requires
-step-requires c κs = search needs
-
-store-requires : tie.Need-store-requires
-store-requires c κs = search needs
-
-answer-of-requires : tie.Need-answer-of-requires
-answer-of-requires c κs = search needs
-
-refuse-requires : tie.Need-refuse-requires
-refuse-requires c κs = search needs
-
-answer-of-requires-2 : tie.Need-answer-of-requires-2
-answer-of-requires-2 c κs = search needs
-
-same-length : tie.Need-same-length
-same-length c = search needs
 
 returns : tie.Need-returns
 unfolding event written
@@ -63,15 +36,15 @@ pub event-spec : {M : Type 1} → statement M
 event-spec =
     tie.close
     (tie.spec
-    checks-requires
-    cast-figure-of
-    figure-of-requires
+    (λ c κs. search needs)
+    (λ c. search needs)
+    (λ c κs. search needs)
     cast-step
-    step-requires
-    store-requires
-    answer-of-requires
-    refuse-requires
-    answer-of-requires-2
-    same-length
+    (λ c κs. search needs)
+    (λ c κs. search needs)
+    (λ c κs. search needs)
+    (λ c κs. search needs)
+    (λ c κs. search needs)
+    (λ c. search needs)
     returns
     returns-2)

@@ -3,33 +3,6 @@ use borrow.Author.Needs.{needs}
 use Rattle.chip.proofs.event.hold_to.Statement.{statement}
 use Rattle.chip.proofs.event.hold_to.Tie as tie
 
-hold-high-requires : tie.Need-hold-high-requires
-hold-high-requires c κs = search needs
-
-silent-requires : tie.Need-silent-requires
-silent-requires c κs = search needs
-
-accept-requires : tie.Need-accept-requires
-accept-requires c κs = search needs
-
-hold-up-requires : tie.Need-hold-up-requires
-hold-up-requires c κs = search needs
-
-refuse-requires : tie.Need-refuse-requires
-refuse-requires c κs = search needs
-
-hold-fall-requires : tie.Need-hold-fall-requires
-hold-fall-requires c κs = search needs
-
-accept-requires-2 : tie.Need-accept-requires-2
-accept-requires-2 c κs = search needs
-
-silent-requires-2 : tie.Need-silent-requires-2
-silent-requires-2 c κs = search needs
-
-accept-requires-3 : tie.Need-accept-requires-3
-accept-requires-3 c κs = search needs
-
 returns : tie.Need-returns
 returns c = simp (c .accept .ensures, c .before .silent .ensures, ← c .before .before .before .before .hold-high .ensures, c .before .before .if2 .taken, c .before .before .before .if1 .taken)
 
@@ -49,15 +22,15 @@ pub hold-to-spec : {M : Type 1} → statement M
 hold-to-spec =
     tie.close
     (tie.spec
-    hold-high-requires
-    silent-requires
-    accept-requires
-    hold-up-requires
-    refuse-requires
-    hold-fall-requires
-    accept-requires-2
-    silent-requires-2
-    accept-requires-3
+    (λ c κs. search needs)
+    (λ c κs. search needs)
+    (λ c κs. search needs)
+    (λ c κs. search needs)
+    (λ c κs. search needs)
+    (λ c κs. search needs)
+    (λ c κs. search needs)
+    (λ c κs. search needs)
+    (λ c κs. search needs)
     returns
     returns-2
     returns-3

@@ -5,39 +5,6 @@ use borrow.Author.Needs.{needs}
 use Rattle.chip.proofs.event.live.Statement.{statement}
 use Rattle.chip.proofs.event.live.Tie as tie
 
-cs-to-requires : tie.Need-cs-to-requires
-cs-to-requires c κs = search needs
-
-accept-requires : tie.Need-accept-requires
-accept-requires c κs = search needs
-
-sck-to-requires : tie.Need-sck-to-requires
-sck-to-requires c κs = search needs
-
-accept-requires-2 : tie.Need-accept-requires-2
-accept-requires-2 c κs = search needs
-
-si-to-requires : tie.Need-si-to-requires
-si-to-requires c κs = search needs
-
-accept-requires-3 : tie.Need-accept-requires-3
-accept-requires-3 c κs = search needs
-
-hold-to-requires : tie.Need-hold-to-requires
-hold-to-requires c κs = search needs
-
-wp-to-requires : tie.Need-wp-to-requires
-wp-to-requires c κs = search needs
-
-accept-requires-4 : tie.Need-accept-requires-4
-accept-requires-4 c κs = search needs
-
-vdd-to-requires : tie.Need-vdd-to-requires
-vdd-to-requires c κs = search needs
-
-accept-requires-5 : tie.Need-accept-requires-5
-accept-requires-5 c κs = search needs
-
 returns : tie.Need-returns
 unfolding live
 returns c = simp (c .accept .ensures, c .before .cs-to .ensures, c .before .before .match .keys1)
@@ -66,17 +33,17 @@ pub live-spec : {M : Type 1} → statement M
 live-spec =
     tie.close
     (tie.spec
-    cs-to-requires
-    accept-requires
-    sck-to-requires
-    accept-requires-2
-    si-to-requires
-    accept-requires-3
-    hold-to-requires
-    wp-to-requires
-    accept-requires-4
-    vdd-to-requires
-    accept-requires-5
+    (λ c κs. search needs)
+    (λ c κs. search needs)
+    (λ c κs. search needs)
+    (λ c κs. search needs)
+    (λ c κs. search needs)
+    (λ c κs. search needs)
+    (λ c κs. search needs)
+    (λ c κs. search needs)
+    (λ c κs. search needs)
+    (λ c κs. search needs)
+    (λ c κs. search needs)
     returns
     returns-2
     returns-3

@@ -3,18 +3,6 @@ use borrow.Author.Needs.{needs}
 use Rattle.chip.proofs.event.sck_to.Statement.{statement}
 use Rattle.chip.proofs.event.sck_to.Tie as tie
 
-silent-requires : tie.Need-silent-requires
-silent-requires c κs = search needs
-
-sck-rise-requires : tie.Need-sck-rise-requires
-sck-rise-requires c κs = search needs
-
-sck-fall-requires : tie.Need-sck-fall-requires
-sck-fall-requires c κs = search needs
-
-silent-requires-2 : tie.Need-silent-requires-2
-silent-requires-2 c κs = search needs
-
 returns : tie.Need-returns
 returns c = simp (c .silent .ensures, c .before .if2 .taken, c .before .before .if1 .taken)
 
@@ -31,10 +19,10 @@ pub sck-to-spec : {M : Type 1} → statement M
 sck-to-spec =
     tie.close
     (tie.spec
-    silent-requires
-    sck-rise-requires
-    sck-fall-requires
-    silent-requires-2
+    (λ c κs. search needs)
+    (λ c κs. search needs)
+    (λ c κs. search needs)
+    (λ c κs. search needs)
     returns
     returns-2
     returns-3

@@ -4,12 +4,6 @@ use borrow.Author.Needs.{needs}
 use Rattle.chip.proofs.event.step.Statement.{statement}
 use Rattle.chip.proofs.event.step.Tie as tie
 
-live-requires : tie.Need-live-requires
-live-requires c κs = search needs
-
-dark-requires : tie.Need-dark-requires
-dark-requires c κs = search needs
-
 returns : tie.Need-returns
 unfolding step
 returns c = simp (c .live .ensures, c .before .if1 .taken)
@@ -19,4 +13,4 @@ unfolding step
 returns-2 c = simp (c .dark .ensures, c .before .if1 .left)
 
 pub step-spec : {M : Type 1} → statement M
-step-spec = tie.close (tie.spec live-requires dark-requires returns returns-2)
+step-spec = tie.close (tie.spec (λ c κs. search needs) (λ c κs. search needs) returns returns-2)

@@ -6,30 +6,6 @@ use borrow.Author.Needs.{needs}
 use Rattle.chip.proofs.event.store.Statement.{statement}
 use Rattle.chip.proofs.event.store.Tie as tie
 
-enum-told : tie.Need-enum-told
-enum-told c = search needs
-
-enum-told-2 : tie.Need-enum-told-2
-enum-told-2 c = search needs
-
-enum-known-note : tie.Need-enum-known-note
-enum-known-note c = search needs
-
-slice-write-array : tie.Need-slice-write-array
-slice-write-array c = search needs
-
-enum-told-3 : tie.Need-enum-told-3
-enum-told-3 c = search needs
-
-enum-told-4 : tie.Need-enum-told-4
-enum-told-4 c = search needs
-
-enum-told-5 : tie.Need-enum-told-5
-enum-told-5 c = search needs
-
-enum-told-6 : tie.Need-enum-told-6
-enum-told-6 c = search needs
-
 returns : tie.Need-returns
 unfolding written
 returns c = simp (c .enum-told .given .1)
@@ -37,9 +13,6 @@ returns c = simp (c .enum-told .given .1)
 returns-2 : tie.Need-returns-2
 unfolding written
 returns-2 c = simp (c .enum-told2 .given .1)
-
-same-length : tie.Need-same-length
-same-length c = search needs
 
 returns-3 : tie.Need-returns-3
 unfolding written
@@ -69,17 +42,17 @@ pub store-spec : {M : Type 1} → statement M
 store-spec =
     tie.close
     (tie.spec
-    enum-told
-    enum-told-2
-    enum-known-note
-    slice-write-array
-    enum-told-3
-    enum-told-4
-    enum-told-5
-    enum-told-6
+    (λ c. search needs)
+    (λ c. search needs)
+    (λ c. search needs)
+    (λ c. search needs)
+    (λ c. search needs)
+    (λ c. search needs)
+    (λ c. search needs)
+    (λ c. search needs)
     returns
     returns-2
-    same-length
+    (λ c. search needs)
     returns-3
     returns-4
     returns-5

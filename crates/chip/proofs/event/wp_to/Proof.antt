@@ -3,12 +3,6 @@ use borrow.Author.Needs.{needs}
 use Rattle.chip.proofs.event.wp_to.Statement.{statement}
 use Rattle.chip.proofs.event.wp_to.Tie as tie
 
-wp-rise-requires : tie.Need-wp-rise-requires
-wp-rise-requires c κs = search needs
-
-wp-fall-requires : tie.Need-wp-fall-requires
-wp-fall-requires c κs = search needs
-
 returns : tie.Need-returns
 returns c = simp (c .wp-rise .ensures, c .before .if1 .taken)
 
@@ -16,4 +10,4 @@ returns-2 : tie.Need-returns-2
 returns-2 c = simp (c .wp-fall .ensures, c .before .if1 .left)
 
 pub wp-to-spec : {M : Type 1} → statement M
-wp-to-spec = tie.close (tie.spec wp-rise-requires wp-fall-requires returns returns-2)
+wp-to-spec = tie.close (tie.spec (λ c κs. search needs) (λ c κs. search needs) returns returns-2)

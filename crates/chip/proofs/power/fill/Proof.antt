@@ -5,15 +5,6 @@ use borrow.Author.Needs.{needs}
 use Rattle.chip.proofs.power.fill.Statement.{statement}
 use Rattle.chip.proofs.power.fill.Tie as tie
 
-fill-refusal-requires : tie.Need-fill-refusal-requires
-fill-refusal-requires c κs = search needs
-
-fill-with-requires : tie.Need-fill-with-requires
-fill-with-requires c κs = search needs
-
-same-length : tie.Need-same-length
-same-length c = search needs
-
 returns : tie.Need-returns
 unfolding filled
 returns c = (
@@ -28,4 +19,4 @@ returns-2 c =
 
 pub fill-spec : {M : Type 1} → statement M
 fill-spec =
-    tie.close (tie.spec fill-refusal-requires fill-with-requires same-length returns returns-2)
+    tie.close (tie.spec (λ c κs. search needs) (λ c κs. search needs) (λ c. search needs) returns returns-2)

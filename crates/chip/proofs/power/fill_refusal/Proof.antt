@@ -5,15 +5,9 @@ use borrow.Author.Needs.{needs}
 use Rattle.chip.proofs.power.fill_refusal.Statement.{statement}
 use Rattle.chip.proofs.power.fill_refusal.Tie as tie
 
-is-part-requires : tie.Need-is-part-requires
-is-part-requires c κs = search needs
-
 returns : tie.Need-returns
 unfolding fillRefusal
 returns c = simp (← c .before .is-part .ensures, c .if1 .taken)
-
-figure-of-requires : tie.Need-figure-of-requires
-figure-of-requires c κs = search needs
 
 returns-2 : tie.Need-returns-2
 unfolding fillRefusal
@@ -25,4 +19,4 @@ returns-3 c = simp (← c .before .before .figure-of .ensures, ← c .before .be
 
 pub fill-refusal-spec : {M : Type 1} → statement M
 fill-refusal-spec =
-    tie.close (tie.spec is-part-requires returns figure-of-requires returns-2 returns-3)
+    tie.close (tie.spec (λ c κs. search needs) returns (λ c κs. search needs) returns-2 returns-3)

@@ -21,15 +21,6 @@ abbrev μ-loop : tie.MeasureT-loop
 loop-holds : tie.Need-loop-holds Inv-loop μ-loop
 loop-holds c = (fill-none (c .args .array .now) (c .args .byte), zero-le, refl)
 
-slice-write-array : tie.Need-slice-write-array Inv-loop μ-loop
-slice-write-array c = search needs
-
-add-i : tie.Need-add-i Inv-loop μ-loop
-add-i c = search needs
-
-loop-less : tie.Need-loop-less Inv-loop μ-loop
-loop-less c = search needs
-
 loop-again : tie.Need-loop-again Inv-loop μ-loop
 loop-again c = (
   ap (λ (l : List ℕ). set l (c .before .loop .i) (c .before .before .args .byte)) (c .before .loop .inv .0) ∙ fill-more (c .before .loop .i) (c .before .before .args .byte) (c .before .before .args .array .now) (omega arith),
@@ -53,9 +44,9 @@ fill-with-spec =
     Inv-loop
     μ-loop
     loop-holds
-    slice-write-array
-    add-i
-    loop-less
+    (λ c. search needs)
+    (λ c. search needs)
+    (λ c. search needs)
     loop-again
     same-length
     returns)

@@ -5,18 +5,9 @@ use borrow.Author.Needs.{needs}
 use Rattle.chip.proofs.power.power_refusal.Statement.{statement}
 use Rattle.chip.proofs.power.power_refusal.Tie as tie
 
-fill-refusal-requires : tie.Need-fill-refusal-requires
-fill-refusal-requires c κs = search needs
-
 returns : tie.Need-returns
 unfolding powerRefusal
 returns c = simp (← c .before .fill-refusal .ensures, ne-eqb _ _ (c .if1 .taken))
-
-figure-of-requires : tie.Need-figure-of-requires
-figure-of-requires c κs = search needs
-
-cast-if2 : tie.Need-cast-if2
-cast-if2 c = search needs
 
 returns-2 : tie.Need-returns-2
 unfolding powerRefusal
@@ -29,4 +20,4 @@ returns-3 c = simp (← c .before .before .figure-of .ensures, ← c .before .be
 pub power-refusal-spec : {M : Type 1} → statement M
 power-refusal-spec =
     tie.close
-    (tie.spec fill-refusal-requires returns figure-of-requires cast-if2 returns-2 returns-3)
+    (tie.spec (λ c κs. search needs) returns (λ c κs. search needs) (λ c. search needs) returns-2 returns-3)

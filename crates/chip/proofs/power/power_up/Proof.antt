@@ -7,12 +7,6 @@ use borrow.Author.Needs.{needs}
 use Rattle.chip.proofs.power.power_up.Statement.{statement}
 use Rattle.chip.proofs.power.power_up.Tie as tie
 
-power-refusal-requires : tie.Need-power-refusal-requires
-power-refusal-requires c κs = search needs
-
-at-rest-requires : tie.Need-at-rest-requires
-at-rest-requires c κs = search needs
-
 returns : tie.Need-returns
 unfolding powerUp
 returns c = simp (c .at-rest .ensures, ← c .before .before .power-refusal .ensures, ne-eqb _ _ (c .before .if1 .taken))
@@ -25,9 +19,6 @@ cast-at-rest-2 : tie.Need-cast-at-rest-2
 cast-at-rest-2 c =
     record { fits = power-kept _ _ _ (sym (c .before .power-refusal .ensures) ∙ c .if1 .left) }
 
-at-rest-requires-2 : tie.Need-at-rest-requires-2
-at-rest-requires-2 c κs = search needs
-
 returns-2 : tie.Need-returns-2
 unfolding powerUp
 returns-2 c = simp (c .at-rest2 .ensures, ← c .before .before .power-refusal .ensures, c .before .if1 .left)
@@ -36,10 +27,10 @@ pub power-up-spec : {M : Type 1} → statement M
 power-up-spec =
     tie.close
     (tie.spec
-    power-refusal-requires
-    at-rest-requires
+    (λ c κs. search needs)
+    (λ c κs. search needs)
     returns
     cast-at-rest
     cast-at-rest-2
-    at-rest-requires-2
+    (λ c κs. search needs)
     returns-2)

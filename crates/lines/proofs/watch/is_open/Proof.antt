@@ -4,12 +4,9 @@ use borrow.Author.Needs.{needs}
 use Rattle.lines.proofs.watch.is_open.Statement.{statement}
 use Rattle.lines.proofs.watch.is_open.Tie as tie
 
-is-closed-requires : tie.Need-is-closed-requires
-is-closed-requires c κs = search needs
-
 returns : tie.Need-returns
 unfolding isOpen
 returns c = simp (c .is-closed .ensures)
 
 pub is-open-spec : {M : Type 1} → statement M
-is-open-spec = tie.close (tie.spec is-closed-requires returns)
+is-open-spec = tie.close (tie.spec (λ c κs. search needs) returns)

@@ -15,25 +15,10 @@ Inv-loop code ops i₀ i = (i ≤ 8) × (command (drop i ops) code ≡ command o
 abbrev μ-loop : tie.MeasureT-loop
 μ-loop code ops i₀ i = 8 - i
 
-loop-holds : tie.Need-loop-holds Inv-loop μ-loop
-loop-holds c = search needs
-
-mul-op : tie.Need-mul-op Inv-loop μ-loop
-mul-op c = search needs
-
-array-copy-out-op : tie.Need-array-copy-out-op Inv-loop μ-loop
-array-copy-out-op c = search needs
-
 returns : tie.Need-returns Inv-loop μ-loop
 returns c =
     found _ (c .before .before .before .before .loop .i) _ 8 (c .before .before .before .before .before .good .0 .1 .0 .1)
     (c .before .before .before .before .loop .inv .1) _ (c .before .before .before .loop-test .taken) (c .if1 .taken)
-
-add-i : tie.Need-add-i Inv-loop μ-loop
-add-i c = search needs
-
-loop-less : tie.Need-loop-less Inv-loop μ-loop
-loop-less c = search needs
 
 loop-again : tie.Need-loop-again Inv-loop μ-loop
 loop-again c = (
@@ -52,11 +37,11 @@ decode-spec =
     (tie.spec
     Inv-loop
     μ-loop
-    loop-holds
-    mul-op
-    array-copy-out-op
+    (λ c. search needs)
+    (λ c. search needs)
+    (λ c. search needs)
     returns
-    add-i
-    loop-less
+    (λ c. search needs)
+    (λ c. search needs)
     loop-again
     returns-2)

@@ -6,9 +6,6 @@ use borrow.Author.Needs.{needs}
 use Rattle.parts.proofs.guards.may_store.Statement.{statement}
 use Rattle.parts.proofs.guards.may_store.Tie as tie
 
-first-protected-requires : tie.Need-first-protected-requires
-first-protected-requires c κs = search needs
-
 returns : tie.Need-returns
 unfolding mayStore
 returns c = simp (c .if1 .taken)
@@ -27,4 +24,4 @@ returns-4 c = simp (← c .before .before .before .before .first-protected .ensu
 
 pub may-store-spec : {M : Type 1} → statement M
 may-store-spec =
-    tie.close (tie.spec first-protected-requires returns returns-2 returns-3 returns-4)
+    tie.close (tie.spec (λ c κs. search needs) returns returns-2 returns-3 returns-4)

@@ -7,12 +7,6 @@ use borrow.Author.Needs.{needs}
 use Rattle.report.proofs.items.data_event.Statement.{statement}
 use Rattle.report.proofs.items.data_event.Tie as tie
 
-sub-result : tie.Need-sub-result
-sub-result c = search needs
-
-shr-result : tie.Need-shr-result
-shr-result c = search needs
-
 add-result : tie.Need-add-result
 add-result c = omega (arith, and-le-r (c .before .args .byte / 2 ^ (7 - c .before .args .k / 3)) 1)
 
@@ -29,8 +23,8 @@ pub data-event-spec : {M : Type 1} → statement M
 data-event-spec =
     tie.close
     (tie.spec
-    sub-result
-    shr-result
+    (λ c. search needs)
+    (λ c. search needs)
     add-result
     returns
     returns-2

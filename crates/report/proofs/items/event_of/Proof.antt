@@ -9,9 +9,6 @@ use borrow.Author.Needs.{needs}
 use Rattle.report.proofs.items.event_of.Statement.{statement}
 use Rattle.report.proofs.items.event_of.Tie as tie
 
-events-of-requires : tie.Need-events-of-requires
-events-of-requires c κs = search needs
-
 returns : tie.Need-returns
 returns c = sym (List·getD-eq-default (itemEvents (c .before .before .args .item)) 0 (rw (c .before .events-of .ensures) at (c .if1 .taken)))
 
@@ -29,4 +26,4 @@ returns-3 c = simp (c .data-event .ensures, le-ltb _ _ (c .before .if2 .left))
 
 pub event-of-spec : {M : Type 1} → statement M
 event-of-spec =
-    tie.close (tie.spec events-of-requires returns returns-2 data-event-requires returns-3)
+    tie.close (tie.spec (λ c κs. search needs) returns returns-2 data-event-requires returns-3)

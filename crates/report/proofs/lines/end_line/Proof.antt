@@ -9,36 +9,6 @@ use borrow.Author.Needs.{needs}
 use Rattle.report.proofs.lines.end_line.Statement.{statement}
 use Rattle.report.proofs.lines.end_line.Tie as tie
 
-slice-aggregate-put : tie.Need-slice-aggregate-put
-slice-aggregate-put c = search needs
-
-put-requires : tie.Need-put-requires
-put-requires c κs = search needs
-
-put-hex-requires : tie.Need-put-hex-requires
-put-hex-requires c κs = search needs
-
-slice-aggregate-put-numbered : tie.Need-slice-aggregate-put-numbered
-slice-aggregate-put-numbered c = search needs
-
-cast-put-numbered : tie.Need-cast-put-numbered
-cast-put-numbered c = search needs
-
-put-numbered-requires : tie.Need-put-numbered-requires
-put-numbered-requires c κs = search needs
-
-slice-aggregate-put-numbered-2 : tie.Need-slice-aggregate-put-numbered-2
-slice-aggregate-put-numbered-2 c = search needs
-
-put-numbered-requires-2 : tie.Need-put-numbered-requires-2
-put-numbered-requires-2 c κs = search needs
-
-slice-aggregate-put-2 : tie.Need-slice-aggregate-put-2
-slice-aggregate-put-2 c = search needs
-
-put-requires-2 : tie.Need-put-requires-2
-put-requires-2 c κs = search needs
-
 -- a flag as a number
 digit : (on : Bool) → boolByte on ≡ cond on 1 0
 digit true = refl
@@ -59,14 +29,14 @@ pub end-line-spec : {M : Type 1} → statement M
 end-line-spec =
     tie.close
     (tie.spec
-    slice-aggregate-put
-    put-requires
-    put-hex-requires
-    slice-aggregate-put-numbered
-    cast-put-numbered
-    put-numbered-requires
-    slice-aggregate-put-numbered-2
-    put-numbered-requires-2
-    slice-aggregate-put-2
-    put-requires-2
+    (λ c. search needs)
+    (λ c κs. search needs)
+    (λ c κs. search needs)
+    (λ c. search needs)
+    (λ c. search needs)
+    (λ c κs. search needs)
+    (λ c. search needs)
+    (λ c κs. search needs)
+    (λ c. search needs)
+    (λ c κs. search needs)
     returns)

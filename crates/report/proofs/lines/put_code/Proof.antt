@@ -5,18 +5,9 @@ use borrow.Author.Needs.{needs}
 use Rattle.report.proofs.lines.put_code.Statement.{statement}
 use Rattle.report.proofs.lines.put_code.Tie as tie
 
-slice-aggregate-put : tie.Need-slice-aggregate-put
-slice-aggregate-put c = search needs
-
-put-requires : tie.Need-put-requires
-put-requires c κs = search needs
-
 returns : tie.Need-returns
 unfolding codeText
 returns c = (c .put .ensures .ends, rw (lt-ltb _ _ (c .before .before .before .if1 .taken)) (c .put .ensures))
-
-put-hex-requires : tie.Need-put-hex-requires
-put-hex-requires c κs = search needs
 
 returns-2 : tie.Need-returns-2
 unfolding codeText
@@ -24,4 +15,4 @@ returns-2 c = (c .put-hex .ensures .0, rw (le-ltb _ _ (c .before .before .if1 .l
 
 pub put-code-spec : {M : Type 1} → statement M
 put-code-spec =
-    tie.close (tie.spec slice-aggregate-put put-requires returns put-hex-requires returns-2)
+    tie.close (tie.spec (λ c. search needs) (λ c κs. search needs) returns (λ c κs. search needs) returns-2)

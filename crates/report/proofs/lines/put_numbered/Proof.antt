@@ -5,14 +5,8 @@ use borrow.Author.Needs.{needs}
 use Rattle.report.proofs.lines.put_numbered.Statement.{statement}
 use Rattle.report.proofs.lines.put_numbered.Tie as tie
 
-put-requires : tie.Need-put-requires
-put-requires c κs = search needs
-
-put-decimal-requires : tie.Need-put-decimal-requires
-put-decimal-requires c κs = search needs
-
 returns : tie.Need-returns
 returns c = (omega arith, c .before .before .put .ensures then c .put-decimal .ensures .1)
 
 pub put-numbered-spec : {M : Type 1} → statement M
-put-numbered-spec = tie.close (tie.spec put-requires put-decimal-requires returns)
+put-numbered-spec = tie.close (tie.spec (λ c κs. search needs) (λ c κs. search needs) returns)

@@ -9,12 +9,6 @@ use borrow.Author.Needs.{needs}
 use Rattle.report.proofs.lines.put_shown.Statement.{statement}
 use Rattle.report.proofs.lines.put_shown.Tie as tie
 
-slice-aggregate-put : tie.Need-slice-aggregate-put
-slice-aggregate-put c = search needs
-
-put-requires : tie.Need-put-requires
-put-requires c κs = search needs
-
 returns : tie.Need-returns
 unfolding shownText
 returns c = (omega arith, rw (eq-eqb _ _ (c .before .before .before .if1 .taken)) (c .put .ensures))
@@ -32,15 +26,6 @@ returns-2 c = (
   rw (ne-eqb _ _ (c .before .before .before .before .if1 .left), le-leb (c .before .before .before .before .before .before .args .whole) 64 (omega (arith, c .before .before .before .if2 .taken))) (c .put-hexes .ensures .1),
 )
 
-put-hexes-requires-2 : tie.Need-put-hexes-requires-2
-put-hexes-requires-2 c κs = search needs
-
-slice-aggregate-put-2 : tie.Need-slice-aggregate-put-2
-slice-aggregate-put-2 c = search needs
-
-put-requires-2 : tie.Need-put-requires-2
-put-requires-2 c κs = search needs
-
 returns-3 : tie.Need-returns-3
 unfolding shownText
 returns-3 c = (
@@ -52,13 +37,13 @@ pub put-shown-spec : {M : Type 1} → statement M
 put-shown-spec =
     tie.close
     (tie.spec
-    slice-aggregate-put
-    put-requires
+    (λ c. search needs)
+    (λ c κs. search needs)
     returns
     slice-aggregate-put-hexes
     put-hexes-requires
     returns-2
-    put-hexes-requires-2
-    slice-aggregate-put-2
-    put-requires-2
+    (λ c κs. search needs)
+    (λ c. search needs)
+    (λ c κs. search needs)
     returns-3)

@@ -5,9 +5,6 @@ use borrow.Author.Needs.{needs}
 use Rattle.report.proofs.record.count.Statement.{statement}
 use Rattle.report.proofs.record.count.Tie as tie
 
-add-result : tie.Need-add-result
-add-result c = search needs
-
 returns : tie.Need-returns
 unfolding counted
 returns c = simp (lt-ltb _ _ (c .if1 .taken))
@@ -17,4 +14,4 @@ unfolding counted
 returns-2 c = simp (le-ltb _ _ (c .if1 .left))
 
 pub count-spec : {M : Type 1} → statement M
-count-spec = tie.close (tie.spec add-result returns returns-2)
+count-spec = tie.close (tie.spec (λ c. search needs) returns returns-2)

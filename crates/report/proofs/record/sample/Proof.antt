@@ -4,21 +4,6 @@ use borrow.Author.Needs.{needs}
 use Rattle.report.proofs.record.sample.Statement.{statement}
 use Rattle.report.proofs.record.sample.Tie as tie
 
-enum-told : tie.Need-enum-told
-enum-told c = search needs
-
-take-bit-requires : tie.Need-take-bit-requires
-take-bit-requires c κs = search needs
-
-enum-told-2 : tie.Need-enum-told-2
-enum-told-2 c = search needs
-
-take-bit-requires-2 : tie.Need-take-bit-requires-2
-take-bit-requires-2 c κs = search needs
-
-enum-told-3 : tie.Need-enum-told-3
-enum-told-3 c = search needs
-
 returns : tie.Need-returns
 unfolding sampled
 returns c = simp (c .take-bit .ensures, c .before .enum-told .given .1)
@@ -35,11 +20,11 @@ pub sample-spec : {M : Type 1} → statement M
 sample-spec =
     tie.close
     (tie.spec
-    enum-told
-    take-bit-requires
-    enum-told-2
-    take-bit-requires-2
-    enum-told-3
+    (λ c. search needs)
+    (λ c κs. search needs)
+    (λ c. search needs)
+    (λ c κs. search needs)
+    (λ c. search needs)
     returns
     returns-2
     returns-3)

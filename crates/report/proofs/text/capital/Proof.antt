@@ -5,12 +5,9 @@ use borrow.Author.Needs.{needs}
 use Rattle.report.proofs.text.capital.Statement.{statement}
 use Rattle.report.proofs.text.capital.Tie as tie
 
-array-read-result : tie.Need-array-read-result
-array-read-result c = search needs
-
 returns : tie.Need-returns
 unfolding capitals
 returns c = refl
 
 pub capital-spec : {M : Type 1} → statement M
-capital-spec = tie.close (tie.spec array-read-result returns)
+capital-spec = tie.close (tie.spec (λ c. search needs) returns)

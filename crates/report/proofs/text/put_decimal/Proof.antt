@@ -9,15 +9,6 @@ use borrow.Author.Needs.{needs}
 use Rattle.report.proofs.text.put_decimal.Statement.{statement}
 use Rattle.report.proofs.text.put_decimal.Tie as tie
 
-decimal-requires : tie.Need-decimal-requires
-decimal-requires c κs = search needs
-
-array-share-prefix-digits : tie.Need-array-share-prefix-digits
-array-share-prefix-digits c = search needs
-
-slice-aggregate-put : tie.Need-slice-aggregate-put
-slice-aggregate-put c = search needs
-
 put-requires : tie.Need-put-requires
 put-requires c κs = omega (arith, short (c .before .before .decimal .result) _ (c .before .before .before .before .fits .n .fits) (c .before .before .decimal .ensures .1 .0))
 
@@ -32,4 +23,4 @@ returns c =
 pub put-decimal-spec : {M : Type 1} → statement M
 put-decimal-spec =
     tie.close
-    (tie.spec decimal-requires array-share-prefix-digits slice-aggregate-put put-requires returns)
+    (tie.spec (λ c κs. search needs) (λ c. search needs) (λ c. search needs) put-requires returns)

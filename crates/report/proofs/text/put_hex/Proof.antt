@@ -7,23 +7,11 @@ use borrow.Author.Needs.{needs}
 use Rattle.report.proofs.text.put_hex.Statement.{statement}
 use Rattle.report.proofs.text.put_hex.Tie as tie
 
-cast-capital : tie.Need-cast-capital
-cast-capital c = search needs
-
-capital-requires : tie.Need-capital-requires
-capital-requires c κs = search needs
-
 cast-capital-2 : tie.Need-cast-capital-2
 cast-capital-2 c = omega (arith, and-le-r (c .before .args .byte) 15)
 
 capital-requires-2 : tie.Need-capital-requires-2
 capital-requires-2 c κs = omega (arith, and-le-r (c .before .args .byte) 15)
-
-slice-aggregate-put : tie.Need-slice-aggregate-put
-slice-aggregate-put c = search needs
-
-put-requires : tie.Need-put-requires
-put-requires c κs = search needs
 
 returns : tie.Need-returns
 unfolding hex
@@ -36,10 +24,10 @@ pub put-hex-spec : {M : Type 1} → statement M
 put-hex-spec =
     tie.close
     (tie.spec
-    cast-capital
-    capital-requires
+    (λ c. search needs)
+    (λ c κs. search needs)
     cast-capital-2
     capital-requires-2
-    slice-aggregate-put
-    put-requires
+    (λ c. search needs)
+    (λ c κs. search needs)
     returns)

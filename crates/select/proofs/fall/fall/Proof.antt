@@ -5,66 +5,6 @@ use borrow.Author.Needs.{needs}
 use Rattle.select.proofs.fall.fall.Statement.{statement}
 use Rattle.select.proofs.fall.fall.Tie as tie
 
-enum-told : tie.Need-enum-told
-enum-told c = search needs
-
-enum-told-2 : tie.Need-enum-told-2
-enum-told-2 c = search needs
-
-enum-told-3 : tie.Need-enum-told-3
-enum-told-3 c = search needs
-
-enum-told-4 : tie.Need-enum-told-4
-enum-told-4 c = search needs
-
-enum-known-stage : tie.Need-enum-known-stage
-enum-known-stage c = search needs
-
-enum-told-5 : tie.Need-enum-told-5
-enum-told-5 c = search needs
-
-show-array-requires : tie.Need-show-array-requires
-show-array-requires c κs = search needs
-
-enum-told-6 : tie.Need-enum-told-6
-enum-told-6 c = search needs
-
-show-status-requires : tie.Need-show-status-requires
-show-status-requires c κs = search needs
-
-enum-known-stage-2 : tie.Need-enum-known-stage-2
-enum-known-stage-2 c = search needs
-
-next-address-requires : tie.Need-next-address-requires
-next-address-requires c κs = search needs
-
-show-array-requires-2 : tie.Need-show-array-requires-2
-show-array-requires-2 c κs = search needs
-
-sub-show-array : tie.Need-sub-show-array
-sub-show-array c = search needs
-
-show-array-requires-3 : tie.Need-show-array-requires-3
-show-array-requires-3 c κs = search needs
-
-enum-known-stage-3 : tie.Need-enum-known-stage-3
-enum-known-stage-3 c = search needs
-
-sub-show-status : tie.Need-sub-show-status
-sub-show-status c = search needs
-
-show-status-requires-2 : tie.Need-show-status-requires-2
-show-status-requires-2 c κs = search needs
-
-enum-told-7 : tie.Need-enum-told-7
-enum-told-7 c = search needs
-
-enum-told-8 : tie.Need-enum-told-8
-enum-told-8 c = search needs
-
-enum-told-9 : tie.Need-enum-told-9
-enum-told-9 c = search needs
-
 returns : tie.Need-returns
 unfolding fall
 returns c = simp (c .enum-told .given .1)
@@ -121,26 +61,26 @@ pub fall-spec : {M : Type 1} → statement M
 fall-spec =
     tie.close
     (tie.spec
-    enum-told
-    enum-told-2
-    enum-told-3
-    enum-told-4
-    enum-known-stage
-    enum-told-5
-    show-array-requires
-    enum-told-6
-    show-status-requires
-    enum-known-stage-2
-    next-address-requires
-    show-array-requires-2
-    sub-show-array
-    show-array-requires-3
-    enum-known-stage-3
-    sub-show-status
-    show-status-requires-2
-    enum-told-7
-    enum-told-8
-    enum-told-9
+    (λ c. search needs)
+    (λ c. search needs)
+    (λ c. search needs)
+    (λ c. search needs)
+    (λ c. search needs)
+    (λ c. search needs)
+    (λ c κs. search needs)
+    (λ c. search needs)
+    (λ c κs. search needs)
+    (λ c. search needs)
+    (λ c κs. search needs)
+    (λ c κs. search needs)
+    (λ c. search needs)
+    (λ c κs. search needs)
+    (λ c. search needs)
+    (λ c. search needs)
+    (λ c κs. search needs)
+    (λ c. search needs)
+    (λ c. search needs)
+    (λ c. search needs)
     returns
     returns-2
     returns-3

@@ -4,12 +4,9 @@ use borrow.Author.Needs.{needs}
 use Rattle.select.proofs.fall.show_status.Statement.{statement}
 use Rattle.select.proofs.fall.show_status.Tie as tie
 
-bit-of-requires : tie.Need-bit-of-requires
-bit-of-requires c κs = search needs
-
 returns : tie.Need-returns
 unfolding showStatus
 returns c = simp (c .bit-of .ensures)
 
 pub show-status-spec : {M : Type 1} → statement M
-show-status-spec = tie.close (tie.spec bit-of-requires returns)
+show-status-spec = tie.close (tie.spec (λ c κs. search needs) returns)

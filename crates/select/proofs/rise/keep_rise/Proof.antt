@@ -4,27 +4,6 @@ use borrow.Author.Needs.{needs}
 use Rattle.select.proofs.rise.keep_rise.Statement.{statement}
 use Rattle.select.proofs.rise.keep_rise.Tie as tie
 
-take-bit-requires : tie.Need-take-bit-requires
-take-bit-requires c κs = search needs
-
-enum-known-taken : tie.Need-enum-known-taken
-enum-known-taken c = search needs
-
-to-stage-requires : tie.Need-to-stage-requires
-to-stage-requires c κs = search needs
-
-enum-known-taken-2 : tie.Need-enum-known-taken-2
-enum-known-taken-2 c = search needs
-
-may-keep-requires : tie.Need-may-keep-requires
-may-keep-requires c κs = search needs
-
-enum-told : tie.Need-enum-told
-enum-told c = search needs
-
-enum-known-verdict : tie.Need-enum-known-verdict
-enum-known-verdict c = search needs
-
 returns : tie.Need-returns
 unfolding keepRise
 returns c = simp (c .to-stage .ensures, ← c .before .before .before .before .take-bit .ensures, c .before .before .taken .given .1)
@@ -41,13 +20,13 @@ pub keep-rise-spec : {M : Type 1} → statement M
 keep-rise-spec =
     tie.close
     (tie.spec
-    take-bit-requires
-    enum-known-taken
-    to-stage-requires
-    enum-known-taken-2
-    may-keep-requires
-    enum-told
-    enum-known-verdict
+    (λ c κs. search needs)
+    (λ c. search needs)
+    (λ c κs. search needs)
+    (λ c. search needs)
+    (λ c κs. search needs)
+    (λ c. search needs)
+    (λ c. search needs)
     returns
     returns-2
     returns-3)

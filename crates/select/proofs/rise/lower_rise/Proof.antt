@@ -4,24 +4,6 @@ use borrow.Author.Needs.{needs}
 use Rattle.select.proofs.rise.lower_rise.Statement.{statement}
 use Rattle.select.proofs.rise.lower_rise.Tie as tie
 
-take-bit-requires : tie.Need-take-bit-requires
-take-bit-requires c κs = search needs
-
-enum-known-taken : tie.Need-enum-known-taken
-enum-known-taken c = search needs
-
-to-stage-requires : tie.Need-to-stage-requires
-to-stage-requires c κs = search needs
-
-enum-known-taken-2 : tie.Need-enum-known-taken-2
-enum-known-taken-2 c = search needs
-
-addressed-requires : tie.Need-addressed-requires
-addressed-requires c κs = search needs
-
-to-stage-requires-2 : tie.Need-to-stage-requires-2
-to-stage-requires-2 c κs = search needs
-
 returns : tie.Need-returns
 unfolding lowerRise
 returns c = simp (c .to-stage .ensures, ← c .before .before .before .before .take-bit .ensures, c .before .before .taken .given .1)
@@ -34,11 +16,11 @@ pub lower-rise-spec : {M : Type 1} → statement M
 lower-rise-spec =
     tie.close
     (tie.spec
-    take-bit-requires
-    enum-known-taken
-    to-stage-requires
-    enum-known-taken-2
-    addressed-requires
-    to-stage-requires-2
+    (λ c κs. search needs)
+    (λ c. search needs)
+    (λ c κs. search needs)
+    (λ c. search needs)
+    (λ c κs. search needs)
+    (λ c κs. search needs)
     returns
     returns-2)

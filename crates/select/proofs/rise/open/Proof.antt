@@ -4,51 +4,6 @@ use borrow.Author.Needs.{needs}
 use Rattle.select.proofs.rise.open.Statement.{statement}
 use Rattle.select.proofs.rise.open.Tie as tie
 
-decode-requires : tie.Need-decode-requires
-decode-requires c κs = search needs
-
-enum-told : tie.Need-enum-told
-enum-told c = search needs
-
-enum-told-2 : tie.Need-enum-told-2
-enum-told-2 c = search needs
-
-enum-told-3 : tie.Need-enum-told-3
-enum-told-3 c = search needs
-
-to-stage-requires : tie.Need-to-stage-requires
-to-stage-requires c κs = search needs
-
-enum-told-4 : tie.Need-enum-told-4
-enum-told-4 c = search needs
-
-to-stage-requires-2 : tie.Need-to-stage-requires-2
-to-stage-requires-2 c κs = search needs
-
-enum-told-5 : tie.Need-enum-told-5
-enum-told-5 c = search needs
-
-header-requires : tie.Need-header-requires
-header-requires c κs = search needs
-
-to-stage-requires-3 : tie.Need-to-stage-requires-3
-to-stage-requires-3 c κs = search needs
-
-enum-told-6 : tie.Need-enum-told-6
-enum-told-6 c = search needs
-
-header-requires-2 : tie.Need-header-requires-2
-header-requires-2 c κs = search needs
-
-to-stage-requires-4 : tie.Need-to-stage-requires-4
-to-stage-requires-4 c κs = search needs
-
-enum-told-7 : tie.Need-enum-told-7
-enum-told-7 c = search needs
-
-to-stage-requires-5 : tie.Need-to-stage-requires-5
-to-stage-requires-5 c κs = search needs
-
 returns : tie.Need-returns
 unfolding opened
 returns c = simp (← c .before .before .decode .ensures, c .enum-told .given .1)
@@ -81,21 +36,21 @@ pub open-spec : {M : Type 1} → statement M
 open-spec =
     tie.close
     (tie.spec
-    decode-requires
-    enum-told
-    enum-told-2
-    enum-told-3
-    to-stage-requires
-    enum-told-4
-    to-stage-requires-2
-    enum-told-5
-    header-requires
-    to-stage-requires-3
-    enum-told-6
-    header-requires-2
-    to-stage-requires-4
-    enum-told-7
-    to-stage-requires-5
+    (λ c κs. search needs)
+    (λ c. search needs)
+    (λ c. search needs)
+    (λ c. search needs)
+    (λ c κs. search needs)
+    (λ c. search needs)
+    (λ c κs. search needs)
+    (λ c. search needs)
+    (λ c κs. search needs)
+    (λ c κs. search needs)
+    (λ c. search needs)
+    (λ c κs. search needs)
+    (λ c κs. search needs)
+    (λ c. search needs)
+    (λ c κs. search needs)
     returns
     returns-2
     returns-3

@@ -4,66 +4,6 @@ use borrow.Author.Needs.{needs}
 use Rattle.select.proofs.rise.rise.Statement.{statement}
 use Rattle.select.proofs.rise.rise.Tie as tie
 
-enum-told : tie.Need-enum-told
-enum-told c = search needs
-
-to-stage-requires : tie.Need-to-stage-requires
-to-stage-requires c κs = search needs
-
-enum-known-stage : tie.Need-enum-known-stage
-enum-known-stage c = search needs
-
-code-rise-requires : tie.Need-code-rise-requires
-code-rise-requires c κs = search needs
-
-enum-known-stage-2 : tie.Need-enum-known-stage-2
-enum-known-stage-2 c = search needs
-
-upper-rise-requires : tie.Need-upper-rise-requires
-upper-rise-requires c κs = search needs
-
-enum-known-stage-3 : tie.Need-enum-known-stage-3
-enum-known-stage-3 c = search needs
-
-lower-rise-requires : tie.Need-lower-rise-requires
-lower-rise-requires c κs = search needs
-
-enum-told-2 : tie.Need-enum-told-2
-enum-told-2 c = search needs
-
-to-stage-requires-2 : tie.Need-to-stage-requires-2
-to-stage-requires-2 c κs = search needs
-
-enum-told-3 : tie.Need-enum-told-3
-enum-told-3 c = search needs
-
-to-stage-requires-3 : tie.Need-to-stage-requires-3
-to-stage-requires-3 c κs = search needs
-
-enum-told-4 : tie.Need-enum-told-4
-enum-told-4 c = search needs
-
-to-stage-requires-4 : tie.Need-to-stage-requires-4
-to-stage-requires-4 c κs = search needs
-
-enum-known-stage-4 : tie.Need-enum-known-stage-4
-enum-known-stage-4 c = search needs
-
-write-rise-requires : tie.Need-write-rise-requires
-write-rise-requires c κs = search needs
-
-enum-known-stage-5 : tie.Need-enum-known-stage-5
-enum-known-stage-5 c = search needs
-
-keep-rise-requires : tie.Need-keep-rise-requires
-keep-rise-requires c κs = search needs
-
-enum-told-5 : tie.Need-enum-told-5
-enum-told-5 c = search needs
-
-to-stage-requires-5 : tie.Need-to-stage-requires-5
-to-stage-requires-5 c κs = search needs
-
 returns : tie.Need-returns
 unfolding rise
 returns c = simp (c .to-stage .ensures, c .before .enum-told .given .1)
@@ -108,26 +48,26 @@ pub rise-spec : {M : Type 1} → statement M
 rise-spec =
     tie.close
     (tie.spec
-    enum-told
-    to-stage-requires
-    enum-known-stage
-    code-rise-requires
-    enum-known-stage-2
-    upper-rise-requires
-    enum-known-stage-3
-    lower-rise-requires
-    enum-told-2
-    to-stage-requires-2
-    enum-told-3
-    to-stage-requires-3
-    enum-told-4
-    to-stage-requires-4
-    enum-known-stage-4
-    write-rise-requires
-    enum-known-stage-5
-    keep-rise-requires
-    enum-told-5
-    to-stage-requires-5
+    (λ c. search needs)
+    (λ c κs. search needs)
+    (λ c. search needs)
+    (λ c κs. search needs)
+    (λ c. search needs)
+    (λ c κs. search needs)
+    (λ c. search needs)
+    (λ c κs. search needs)
+    (λ c. search needs)
+    (λ c κs. search needs)
+    (λ c. search needs)
+    (λ c κs. search needs)
+    (λ c. search needs)
+    (λ c κs. search needs)
+    (λ c. search needs)
+    (λ c κs. search needs)
+    (λ c. search needs)
+    (λ c κs. search needs)
+    (λ c. search needs)
+    (λ c κs. search needs)
     returns
     returns-2
     returns-3

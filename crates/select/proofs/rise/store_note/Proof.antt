@@ -3,12 +3,6 @@ use borrow.Author.Needs.{needs}
 use Rattle.select.proofs.rise.store_note.Statement.{statement}
 use Rattle.select.proofs.rise.store_note.Tie as tie
 
-enum-told : tie.Need-enum-told
-enum-told c = search needs
-
-enum-known-verdict : tie.Need-enum-known-verdict
-enum-known-verdict c = search needs
-
 returns : tie.Need-returns
 returns c = simp (c .enum-told .given .1)
 
@@ -16,4 +10,4 @@ returns-2 : tie.Need-returns-2
 returns-2 c = simp (c .before .verdict .given .1)
 
 pub store-note-spec : {M : Type 1} → statement M
-store-note-spec = tie.close (tie.spec enum-told enum-known-verdict returns returns-2)
+store-note-spec = tie.close (tie.spec (λ c. search needs) (λ c. search needs) returns returns-2)

@@ -4,18 +4,6 @@ use borrow.Author.Needs.{needs}
 use Rattle.stages.proofs.address.addressed.Statement.{statement}
 use Rattle.stages.proofs.address.addressed.Tie as tie
 
-mul-at : tie.Need-mul-at
-mul-at c = search needs
-
-add-at : tie.Need-add-at
-add-at c = search needs
-
-enum-told : tie.Need-enum-told
-enum-told c = search needs
-
-enum-told-2 : tie.Need-enum-told-2
-enum-told-2 c = search needs
-
 returns : tie.Need-returns
 unfolding afterAddress
 returns c = simp (c .enum-told .given .1)
@@ -25,4 +13,4 @@ unfolding afterAddress
 returns-2 c = simp (c .enum-told2 .given .1)
 
 pub addressed-spec : {M : Type 1} → statement M
-addressed-spec = tie.close (tie.spec mul-at add-at enum-told enum-told-2 returns returns-2)
+addressed-spec = tie.close (tie.spec (λ c. search needs) (λ c. search needs) (λ c. search needs) (λ c. search needs) returns returns-2)

@@ -5,9 +5,6 @@ use borrow.Author.Needs.{needs}
 use Rattle.stages.proofs.address.header.Statement.{statement}
 use Rattle.stages.proofs.address.header.Tie as tie
 
-code-page-requires : tie.Need-code-page-requires
-code-page-requires c κs = search needs
-
 returns : tie.Need-returns
 unfolding afterCode
 returns c = simp (c .if1 .taken)
@@ -17,4 +14,4 @@ unfolding afterCode
 returns-2 c = simp (c .before .before .code-page .ensures, ne-eqb _ _ (c .if1 .left))
 
 pub header-spec : {M : Type 1} → statement M
-header-spec = tie.close (tie.spec code-page-requires returns returns-2)
+header-spec = tie.close (tie.spec (λ c κs. search needs) returns returns-2)

@@ -12,9 +12,6 @@ returns : tie.Need-returns
 unfolding nextAddress
 returns c = simp (le-leb _ _ (le-trans (c .if1 .taken) (le-add-right _ 1)))
 
-add-next : tie.Need-add-next
-add-next c = search needs
-
 returns-2 : tie.Need-returns-2
 unfolding nextAddress
 returns-2 c = simp (le-leb (c .before .before .before .before .args .f .size) (c .before .before .before .before .args .at + 1) (omega (arith, c .if2 .taken)))
@@ -24,4 +21,4 @@ unfolding nextAddress
 returns-3 c = simp (lt-leb (c .before .before .before .before .args .f .size) (c .before .before .before .before .args .at + 1) (omega (arith, c .if2 .left)))
 
 pub next-address-spec : {M : Type 1} → statement M
-next-address-spec = tie.close (tie.spec returns add-next returns-2 returns-3)
+next-address-spec = tie.close (tie.spec returns (λ c. search needs) returns-2 returns-3)

@@ -10,12 +10,6 @@ returns : tie.Need-returns
 unfolding bitOf
 returns c = rw (beyond (c .before .fits .byte .fits) (c .if1 .taken))
 
-cast-if2 : tie.Need-cast-if2
-cast-if2 c = search needs
-
-shr-if2 : tie.Need-shr-if2
-shr-if2 c = search needs
-
 returns-2 : tie.Need-returns-2
 unfolding bitOf
 returns-2 c = simp (c .if2 .taken)
@@ -25,4 +19,4 @@ unfolding bitOf
 returns-3 c = simp (ne-eqb _ _ (c .if2 .left))
 
 pub bit-of-spec : {M : Type 1} → statement M
-bit-of-spec = tie.close (tie.spec returns cast-if2 shr-if2 returns-2 returns-3)
+bit-of-spec = tie.close (tie.spec returns (λ c. search needs) (λ c. search needs) returns-2 returns-3)

@@ -6,19 +6,13 @@ use borrow.Author.Needs.{needs}
 use Rattle.stages.proofs.bits.take_bit.Statement.{statement}
 use Rattle.stages.proofs.bits.take_bit.Tie as tie
 
-cast-next : tie.Need-cast-next
-cast-next c = search needs
-
 returns : tie.Need-returns
 unfolding takeBit
 returns c = simp (low-is, lt-ltb _ _ (c .if1 .taken))
-
-cast-byte : tie.Need-cast-byte
-cast-byte c = search needs
 
 returns-2 : tie.Need-returns-2
 unfolding takeBit
 returns-2 c = simp (low-is, le-ltb _ _ (c .if1 .left))
 
 pub take-bit-spec : {M : Type 1} → statement M
-take-bit-spec = tie.close (tie.spec cast-next returns cast-byte returns-2)
+take-bit-spec = tie.close (tie.spec (λ c. search needs) returns (λ c. search needs) returns-2)

@@ -4,60 +4,6 @@ use borrow.Author.Needs.{needs}
 use Rattle.stages.proofs.sound.sound_stage.Statement.{statement}
 use Rattle.stages.proofs.sound.sound_stage.Tie as tie
 
-enum-told : tie.Need-enum-told
-enum-told c = search needs
-
-enum-known-stage : tie.Need-enum-known-stage
-enum-known-stage c = search needs
-
-sound-shift-requires : tie.Need-sound-shift-requires
-sound-shift-requires c κs = search needs
-
-enum-known-stage-2 : tie.Need-enum-known-stage-2
-enum-known-stage-2 c = search needs
-
-sound-shift-requires-2 : tie.Need-sound-shift-requires-2
-sound-shift-requires-2 c κs = search needs
-
-enum-known-stage-3 : tie.Need-enum-known-stage-3
-enum-known-stage-3 c = search needs
-
-cast-result : tie.Need-cast-result
-cast-result c = search needs
-
-mul-result : tie.Need-mul-result
-mul-result c = search needs
-
-sound-shift-requires-3 : tie.Need-sound-shift-requires-3
-sound-shift-requires-3 c κs = search needs
-
-enum-known-stage-4 : tie.Need-enum-known-stage-4
-enum-known-stage-4 c = search needs
-
-shown-length-requires : tie.Need-shown-length-requires
-shown-length-requires c κs = search needs
-
-enum-known-stage-5 : tie.Need-enum-known-stage-5
-enum-known-stage-5 c = search needs
-
-enum-known-stage-6 : tie.Need-enum-known-stage-6
-enum-known-stage-6 c = search needs
-
-enum-known-stage-7 : tie.Need-enum-known-stage-7
-enum-known-stage-7 c = search needs
-
-sound-shift-requires-4 : tie.Need-sound-shift-requires-4
-sound-shift-requires-4 c κs = search needs
-
-enum-known-stage-8 : tie.Need-enum-known-stage-8
-enum-known-stage-8 c = search needs
-
-sound-shift-requires-5 : tie.Need-sound-shift-requires-5
-sound-shift-requires-5 c κs = search needs
-
-enum-told-2 : tie.Need-enum-told-2
-enum-told-2 c = search needs
-
 returns : tie.Need-returns
 unfolding soundStage
 returns c = simp (c .enum-told .given .1)
@@ -102,24 +48,24 @@ pub sound-stage-spec : {M : Type 1} → statement M
 sound-stage-spec =
     tie.close
     (tie.spec
-    enum-told
-    enum-known-stage
-    sound-shift-requires
-    enum-known-stage-2
-    sound-shift-requires-2
-    enum-known-stage-3
-    cast-result
-    mul-result
-    sound-shift-requires-3
-    enum-known-stage-4
-    shown-length-requires
-    enum-known-stage-5
-    enum-known-stage-6
-    enum-known-stage-7
-    sound-shift-requires-4
-    enum-known-stage-8
-    sound-shift-requires-5
-    enum-told-2
+    (λ c. search needs)
+    (λ c. search needs)
+    (λ c κs. search needs)
+    (λ c. search needs)
+    (λ c κs. search needs)
+    (λ c. search needs)
+    (λ c. search needs)
+    (λ c. search needs)
+    (λ c κs. search needs)
+    (λ c. search needs)
+    (λ c κs. search needs)
+    (λ c. search needs)
+    (λ c. search needs)
+    (λ c. search needs)
+    (λ c κs. search needs)
+    (λ c. search needs)
+    (λ c κs. search needs)
+    (λ c. search needs)
     returns
     returns-2
     returns-3

@@ -10,32 +10,11 @@ use Rattle.trace.specs.ScanLaws.{sized, reading-beyond, reading-end, rea
 use Rattle.trace.proofs.number.read_at.Statement.{statement}
 use Rattle.trace.proofs.number.read_at.Tie as tie
 
-unread-requires : tie.Need-unread-requires
-unread-requires c κs = search needs
-
 returns : tie.Need-returns
 returns c = ap readTold (c .unread .ensures) ∙ sym (reading-beyond _ _ (c .before .if1 .taken))
 
-sub-left : tie.Need-sub-left
-sub-left c = search needs
-
 returns-2 : tie.Need-returns-2
 returns-2 c = let a = c .before .before .before .args in sym (reading-end (a .s .now) (a .at) (omega arith))
-
-scan-requires : tie.Need-scan-requires
-scan-requires c κs = search needs
-
-enum-told : tie.Need-enum-told
-enum-told c = search needs
-
-unread-requires-2 : tie.Need-unread-requires-2
-unread-requires-2 c κs = search needs
-
-enum-known-value : tie.Need-enum-known-value
-enum-known-value c = search needs
-
-unread-requires-3 : tie.Need-unread-requires-3
-unread-requires-3 c κs = search needs
 
 -- before the end: the answer by what `scan` found
 inside : (c : tie.After-scan) {found : Shape} → c .scan .result ≡ found → let a = c .before .before .before .before .args in sized (a .at) found ≡ reading (a .s .now) (a .at)
@@ -58,15 +37,15 @@ pub read-at-spec : {M : Type 1} → statement M
 read-at-spec =
     tie.close
     (tie.spec
-    unread-requires
+    (λ c κs. search needs)
     returns
-    sub-left
+    (λ c. search needs)
     returns-2
-    scan-requires
-    enum-told
-    unread-requires-2
-    enum-known-value
-    unread-requires-3
+    (λ c κs. search needs)
+    (λ c. search needs)
+    (λ c κs. search needs)
+    (λ c. search needs)
+    (λ c κs. search needs)
     returns-3
     returns-4
     returns-5)

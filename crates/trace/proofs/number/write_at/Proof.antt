@@ -13,29 +13,14 @@ use Rattle.trace.specs.WriteLaws.{at-refusal, at-placing}
 use Rattle.trace.proofs.number.write_at.Statement.{statement}
 use Rattle.trace.proofs.number.write_at.Tie as tie
 
-unwritten-requires : tie.Need-unwritten-requires
-unwritten-requires c κs = search needs
-
 returns : tie.Need-returns
 unfolding writing
 returns c = at-refusal _ _ _ 8 (ap writtenTold (c .unwritten .ensures)) (simp (lt-ltb _ _ (c .before .if1 .taken)))
-
-unwritten-requires-2 : tie.Need-unwritten-requires-2
-unwritten-requires-2 c κs = search needs
 
 returns-2 : tie.Need-returns-2
 unfolding writing
 returns-2 c =
     at-refusal _ _ _ 9 (ap writtenTold (c .unwritten2 .ensures)) (simp (le-ltb _ _ (c .before .before .if1 .left), lt-ltb _ _ (c .before .if2 .taken)))
-
-sub-room : tie.Need-sub-room
-sub-room c = search needs
-
-width-requires : tie.Need-width-requires
-width-requires c κs = search needs
-
-unwritten-requires-3 : tie.Need-unwritten-requires-3
-unwritten-requires-3 c κs = search needs
 
 returns-3 : tie.Need-returns-3
 unfolding writing
@@ -45,9 +30,6 @@ returns-3 c =
 
 put-requires : tie.Need-put-requires
 put-requires c κs = omega arith
-
-same-length : tie.Need-same-length
-same-length c = search needs
 
 returns-4 : tie.Need-returns-4
 unfolding writing
@@ -64,14 +46,14 @@ pub write-at-spec : {M : Type 1} → statement M
 write-at-spec =
     tie.close
     (tie.spec
-    unwritten-requires
+    (λ c κs. search needs)
     returns
-    unwritten-requires-2
+    (λ c κs. search needs)
     returns-2
-    sub-room
-    width-requires
-    unwritten-requires-3
+    (λ c. search needs)
+    (λ c κs. search needs)
+    (λ c κs. search needs)
     returns-3
     put-requires
-    same-length
+    (λ c. search needs)
     returns-4)

@@ -4,24 +4,6 @@ use borrow.Author.Needs.{needs}
 use Rattle.bench.proofs.stand.Stand.after.Statement.{statement}
 use Rattle.bench.proofs.stand.Stand.after.Tie as tie
 
-clocked-requires : tie.Need-clocked-requires
-clocked-requires c κs = search needs
-
-note-requires : tie.Need-note-requires
-note-requires c κs = search needs
-
-is-open-requires : tie.Need-is-open-requires
-is-open-requires c κs = search needs
-
-is-open-requires-2 : tie.Need-is-open-requires-2
-is-open-requires-2 c κs = search needs
-
-count-requires : tie.Need-count-requires
-count-requires c κs = search needs
-
-new-requires : tie.Need-new-requires
-new-requires c κs = search needs
-
 returns : tie.Need-returns
 unfolding after
 returns c = (simp (c .new .ensures, c .before .count .ensures, ← c .before .before .before .is-open2 .ensures, ← c .before .before .before .before .is-open .ensures, c .before .before .if1 .taken), c .before .before .before .before .before .before .clocked .ensures .1)
@@ -34,11 +16,11 @@ pub after-spec : {M : Type 1} → statement M
 after-spec =
     tie.close
     (tie.spec
-    clocked-requires
-    note-requires
-    is-open-requires
-    is-open-requires-2
-    count-requires
-    new-requires
+    (λ c κs. search needs)
+    (λ c κs. search needs)
+    (λ c κs. search needs)
+    (λ c κs. search needs)
+    (λ c κs. search needs)
+    (λ c κs. search needs)
     returns
     returns-2)

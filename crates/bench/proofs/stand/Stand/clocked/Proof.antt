@@ -5,15 +5,6 @@ use borrow.Author.Needs.{needs}
 use Rattle.bench.proofs.stand.Stand.clocked.Statement.{statement}
 use Rattle.bench.proofs.stand.Stand.clocked.Tie as tie
 
-sees-rise-requires : tie.Need-sees-rise-requires
-sees-rise-requires c κs = search needs
-
-so-requires : tie.Need-so-requires
-so-requires c κs = search needs
-
-rise-requires : tie.Need-rise-requires
-rise-requires c κs = search needs
-
 returns : tie.Need-returns
 unfolding clockedBy shownBy
 returns c = (simp (c .rise .ensures .0, c .before .before .so .ensures, ← c .before .before .before .before .sees-rise .ensures, c .before .before .before .if1 .taken), simp (c .rise .ensures .1, c .before .before .so .ensures, ← c .before .before .before .before .sees-rise .ensures, c .before .before .before .if1 .taken))
@@ -23,4 +14,4 @@ unfolding clockedBy shownBy
 returns-2 c = (simp (← c .before .sees-rise .ensures, c .if1 .left), simp (← c .before .sees-rise .ensures, c .if1 .left))
 
 pub clocked-spec : {M : Type 1} → statement M
-clocked-spec = tie.close (tie.spec sees-rise-requires so-requires rise-requires returns returns-2)
+clocked-spec = tie.close (tie.spec (λ c κs. search needs) (λ c κs. search needs) (λ c κs. search needs) returns returns-2)

@@ -4,9 +4,6 @@ use borrow.Author.Needs.{needs}
 use Rattle.lines.proofs.state.State.cs_fall.Statement.{statement}
 use Rattle.lines.proofs.state.State.cs_fall.Tie as tie
 
-hold-high-requires : tie.Need-hold-high-requires
-hold-high-requires c κs = search needs
-
 returns : tie.Need-returns
 unfolding csFall
 returns c = simp (← c .before .hold-high .ensures, c .if1 .taken)
@@ -16,4 +13,4 @@ unfolding csFall
 returns-2 c = simp (← c .before .hold-high .ensures, c .if1 .left)
 
 pub cs-fall-spec : {M : Type 1} → statement M
-cs-fall-spec = tie.close (tie.spec hold-high-requires returns returns-2)
+cs-fall-spec = tie.close (tie.spec (λ c κs. search needs) returns returns-2)

@@ -4,12 +4,6 @@ use borrow.Author.Needs.{needs}
 use Rattle.lines.proofs.state.State.cs_rise.Statement.{statement}
 use Rattle.lines.proofs.state.State.cs_rise.Tie as tie
 
-hold-high-requires : tie.Need-hold-high-requires
-hold-high-requires c κs = search needs
-
-drops-requires : tie.Need-drops-requires
-drops-requires c κs = search needs
-
 returns : tie.Need-returns
 unfolding csRise
 returns c = rw (← c .before .before .drops .ensures, ← c .before .before .before .before .hold-high .ensures, c .if2 .taken, c .before .before .before .if1 .taken)
@@ -23,4 +17,4 @@ unfolding csRise
 returns-3 c = simp (← c .before .hold-high .ensures, c .if1 .left)
 
 pub cs-rise-spec : {M : Type 1} → statement M
-cs-rise-spec = tie.close (tie.spec hold-high-requires drops-requires returns returns-2 returns-3)
+cs-rise-spec = tie.close (tie.spec (λ c κs. search needs) (λ c κs. search needs) returns returns-2 returns-3)

@@ -4,15 +4,6 @@ use borrow.Author.Needs.{needs}
 use Rattle.lines.proofs.state.State.hold_fall.Statement.{statement}
 use Rattle.lines.proofs.state.State.hold_fall.Tie as tie
 
-cs-requires : tie.Need-cs-requires
-cs-requires c κs = search needs
-
-silent-requires : tie.Need-silent-requires
-silent-requires c κs = search needs
-
-silent-requires-2 : tie.Need-silent-requires-2
-silent-requires-2 c κs = search needs
-
 returns : tie.Need-returns
 unfolding holdFall
 returns c = simp (c .silent .ensures, ← c .before .before .cs .ensures, c .before .if1 .taken)
@@ -23,4 +14,4 @@ returns-2 c = simp (c .silent2 .ensures, ← c .before .before .cs .ensures, c .
 
 pub hold-fall-spec : {M : Type 1} → statement M
 hold-fall-spec =
-    tie.close (tie.spec cs-requires silent-requires silent-requires-2 returns returns-2)
+    tie.close (tie.spec (λ c κs. search needs) (λ c κs. search needs) (λ c κs. search needs) returns returns-2)

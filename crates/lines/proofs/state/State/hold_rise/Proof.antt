@@ -4,12 +4,9 @@ use borrow.Author.Needs.{needs}
 use Rattle.lines.proofs.state.State.hold_rise.Statement.{statement}
 use Rattle.lines.proofs.state.State.hold_rise.Tie as tie
 
-silent-requires : tie.Need-silent-requires
-silent-requires c κs = search needs
-
 returns : tie.Need-returns
 unfolding holdRise
 returns c = simp (c .silent .ensures)
 
 pub hold-rise-spec : {M : Type 1} → statement M
-hold-rise-spec = tie.close (tie.spec silent-requires returns)
+hold-rise-spec = tie.close (tie.spec (λ c κs. search needs) returns)

@@ -4,15 +4,6 @@ use borrow.Author.Needs.{needs}
 use Rattle.lines.proofs.state.State.sck_fall.Statement.{statement}
 use Rattle.lines.proofs.state.State.sck_fall.Tie as tie
 
-hold-high-requires : tie.Need-hold-high-requires
-hold-high-requires c κs = search needs
-
-status-byte-requires : tie.Need-status-byte-requires
-status-byte-requires c κs = search needs
-
-fall-requires : tie.Need-fall-requires
-fall-requires c κs = search needs
-
 returns : tie.Need-returns
 unfolding sckFall
 returns c = simp (c .fall .ensures, c .before .status-byte .ensures, ← c .before .before .before .hold-high .ensures, c .before .before .if1 .taken)
@@ -23,4 +14,4 @@ returns-2 c = simp (← c .before .hold-high .ensures, c .if1 .left)
 
 pub sck-fall-spec : {M : Type 1} → statement M
 sck-fall-spec =
-    tie.close (tie.spec hold-high-requires status-byte-requires fall-requires returns returns-2)
+    tie.close (tie.spec (λ c κs. search needs) (λ c κs. search needs) (λ c κs. search needs) returns returns-2)

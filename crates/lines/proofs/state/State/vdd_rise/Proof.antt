@@ -3,14 +3,8 @@ use borrow.Author.Needs.{needs}
 use Rattle.lines.proofs.state.State.vdd_rise.Statement.{statement}
 use Rattle.lines.proofs.state.State.vdd_rise.Tie as tie
 
-at-rest-requires : tie.Need-at-rest-requires
-at-rest-requires c κs = search needs
-
-silent-requires : tie.Need-silent-requires
-silent-requires c κs = search needs
-
 returns : tie.Need-returns
 returns c = simp (c .silent .ensures, c .before .at-rest .ensures)
 
 pub vdd-rise-spec : {M : Type 1} → statement M
-vdd-rise-spec = tie.close (tie.spec at-rest-requires silent-requires returns)
+vdd-rise-spec = tie.close (tie.spec (λ c κs. search needs) (λ c κs. search needs) returns)
