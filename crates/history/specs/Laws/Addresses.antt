@@ -13,19 +13,10 @@ use lib.Dec.{eqb, leb}
 use lib.Pow as Pow
 use lib.Pow.{pow-pos, pow-add, suc-ones, high}
 use borrow.Author.Tests.{ne-eqb, leb-true, leb-false}
-use Rattle.parts.specs.FigureLaws.{Fair, Header, one, two}
+use Rattle.parts.specs.FigureLaws.{Fair}
 use Rattle.parts.specs.declared.figures.Figure.{Figure}
 use Rattle.stages.specs.Address.{codePage, upperPage, nextAddress}
 use Rattle.history.specs.Bytes.{Byte, topBit, number}
-
--- the top bit, by whether there are two bytes
-pub data Top (top : ℕ) : Bool → Type 0 where
-  inCode : (k : ℕ) → top ≡ 2 ^ k → Top top false
-  nowhere : top ≡ 0 → Top top true
-
-pub top-of : {count top : ℕ} → Header count top → Top top (eqb count 2)
-top-of (one k n t) = rw n (inCode k t)
-top-of (two n t) = rw n (nowhere t)
 
 not-zero : (n : ℕ) → 0 < n → eqb n 0 ≡ false
 not-zero n h = ne-eqb n 0 (λ e. omega arith)

@@ -12,11 +12,12 @@ use lib.ListN.{length, length-append}
 use lib.Seq.{take-at, drop-at, getD-at}
 use lib.Pow.{pow-mono}
 use borrow.Author.Tests.{lt-ltb, le-ltb}
+use Rattle.parts.specs.declared.figures.Figure.{Figure}
 use Rattle.stages.specs.Bits.{lowBit, shifted, takeBit}
 use Rattle.stages.specs.SoundLaws.{shifted-is}
 use Rattle.stages.specs.declared.bits.Taken.the-variants.{Part, Whole}
 use Rattle.history.specs.Lines.{Bit}
-use Rattle.history.specs.Bytes.{Byte, value, byte, eights, bytes}
+use Rattle.history.specs.Bytes.{Byte, value, byte, eights, bytes, Reading, reading}
 
 -- one bit more doubles the value and adds the bit
 digit-more : (s : Bool) (p v d : ℕ) → cond s 1 0 * (p * 2) + (v * 2 + d) ≡ (cond s 1 0 * p + v) * 2 + d
@@ -88,38 +89,38 @@ bytes-whole r cs h = rw (length-append r cs, h, eight-more (length cs), take-at 
     eight-more : (n : ℕ) → (8 + n) / 8 ≡ suc (n / 8)
     eight-more n = omega arith
 
--- the whole bytes of some bits and the bits that are left: so they stay, whatever bits follow
-pub record Cut (bs : List Bit) (whole : List Byte) (r : List Bit) : Type 0 where
+-- how the bits so far are read, whatever bits follow: by their whole bytes, and the bits that are left
+pub record Cut (f : Figure) (bs : List Bit) (read : List Byte → Reading) (r : List Bit) : Type 0 where
   pub short : length r < 8
-  pub cut : (cs : List Bit) → bytes (bs ++ cs) ≡ whole ++ bytes (r ++ cs)
+  pub cut : (cs : List Bit) → reading f (bytes (bs ++ cs)) ≡ read (bytes (r ++ cs))
 
-pub cut-none : Cut [] [] []
-cut-none = record { short = omega arith; cut = λ cs. refl }
+module _ (f : Figure) where
+  pub cut-none : Cut f [] (reading f) []
+  cut-none = record { short = omega arith; cut = λ cs. refl }
 
-pub cut-bytes : (bs : List Bit) (whole : List Byte) (r : List Bit) → Cut bs whole r → bytes bs ≡ whole
-cut-bytes bs whole r c =
-    simp (append-nil, bytes-short r (c .short)) at (c .cut [])
+  pub cut-bytes : {bs : List Bit} {read : List Byte → Reading} {r : List Bit} → Cut f bs read r → reading f (bytes bs) ≡ read []
+  cut-bytes {r = r} c = simp (append-nil, bytes-short r (c .short)) at (c .cut [])
 
-pub cut-part :
-    (bs : List Bit) (whole : List Byte) (r : List Bit) (b : Bit) → Cut bs whole r → length r < 7
-    → Cut (bs ++ b ∷ []) whole (r ++ b ∷ [])
-cut-part bs whole r b c h =
-    record {
-      short = simp length-append (omega arith);
-      cut = λ cs. simp append-assoc (c .cut (b ∷ cs));
-    }
+  pub cut-part :
+      {bs : List Bit} {read : List Byte → Reading} {r : List Bit} (b : Bit) → Cut f bs read r → length r < 7
+      → Cut f (bs ++ b ∷ []) read (r ++ b ∷ [])
+  cut-part b c h =
+      record {
+        short = simp length-append (omega arith);
+        cut = λ cs. simp append-assoc (c .cut (b ∷ cs));
+      }
 
 -- the eighth bit brings the level of /WP
 eighth : (r : List Bit) (b : Bit) → length r ≡ 7 → byte (r ++ b ∷ []) ≡ record { value = value (r ++ b ∷ []); wp = b .wp }
 eighth r b h = rw (getD-at r b [] (record { si = false; wp = true }) 7 h)
 
 pub cut-whole :
-    (bs : List Bit) (whole : List Byte) (r : List Bit) (b : Bit) → Cut bs whole r → length r ≡ 7
-    → Cut (bs ++ b ∷ []) (whole ++ record { value = value (r ++ b ∷ []); wp = b .wp } ∷ []) []
-cut-whole bs whole r b c h =
+    (f : Figure) {bs : List Bit} {read : List Byte → Reading} {r : List Bit} (b : Bit) → Cut f bs read r → length r ≡ 7
+    → Cut f (bs ++ b ∷ []) (λ more. read (record { value = value (r ++ b ∷ []); wp = b .wp } ∷ more)) []
+cut-whole f {read = read} {r = r} b c h =
     record {
       short = omega arith;
-      cut = λ cs. simp append-assoc (c .cut (b ∷ cs) ∙ ap (λ (t : List Byte). whole ++ t) (first cs));
+      cut = λ cs. simp append-assoc (c .cut (b ∷ cs) ∙ ap read (first cs));
     }
   where
     first : (cs : List Bit) → bytes (r ++ b ∷ cs) ≡ record { value = value (r ++ b ∷ []); wp = b .wp } ∷ bytes cs

@@ -1,14 +1,14 @@
--- A seen rise of SCK, over the image of the bytes: a bit that makes no byte whole changes only the bits of the next byte;
--- a bit that makes one whole takes the image of the bytes to the image of one byte more, and the world with it. Assumes nothing.
-use Prim.Native.Nat.{ℕ, _+_, _%_, _<_}
-use native.Mathlib.Nat.{add-assoc, add-comm, add-zero, zero-add}
-use native.Mathlib.Numerals.{add-one}
+-- A seen rise of SCK, over the image of the stage: a bit that makes no byte whole changes only the bits of the next byte; a
+-- bit that makes one whole takes the image to that of one byte more, and the world with it. Assumes nothing.
+use Prim.Native.Nat.{ℕ, _+_, _*_, _%_, _<_}
+use native.Mathlib.Nat.{add-assoc}
 use mathlib.Core.Bool.{Bool, true, false, cond}
-use mathlib.Core.List.{List, [], _∷_, _++_}
-use mathlib.Core.Path.{_≡_, refl, ap}
-use lib.ListN.{length, length-append}
+use mathlib.Core.List.{List, [], _∷_}
+use mathlib.Core.Path.{_≡_, refl, sym, ap, _∙_}
+use lib.Dec.{eqb}
+use lib.ListN.{take, drop}
 use lib.Seq.{drop-nil}
-use Rattle.parts.specs.FigureLaws.{Fair}
+use Rattle.parts.specs.FigureLaws.{Fair, Header, one, two}
 use Rattle.parts.specs.Commands.{command}
 use Rattle.parts.specs.Guards.{mayStore, mayKeep}
 use Rattle.parts.specs.declared.figures.Figure.{Figure}
@@ -17,189 +17,187 @@ use Rattle.parts.specs.declared.commands.Command.the-variants.{Wren, Wrdi, Rdsr
 use Rattle.parts.specs.declared.guards.Verdict.{Verdict}
 use Rattle.parts.specs.declared.guards.Verdict.the-variants.{Allowed, HeldBack}
 use Rattle.stages.specs.Bits.{fresh, takeBit}
-use Rattle.stages.specs.Address.{codePage, afterCode, afterAddress}
+use Rattle.stages.specs.Address.{codePage, upperPage, afterCode, afterAddress}
+use Rattle.select.specs.Rise as select
 use Rattle.select.specs.Rise.{begun, storeNote, keptBy, opened, codeRise, upperRise, lowerRise, writeRise, keepRise, rise}
 use Rattle.stages.specs.declared.bits.Taken.the-variants.{Part, Whole}
 use Rattle.select.specs.declared.rise.Seen.{Seen}
 use Rattle.select.specs.declared.rise.Risen.{Risen}
-use Rattle.stages.specs.declared.stage.Came.the-variants.{Bytes}
-use Rattle.stages.specs.declared.stage.End.the-variants.{Drops}
+use Rattle.stages.specs.declared.stage.Came.{Came}
+use Rattle.stages.specs.declared.stage.Came.the-variants.{NoByte, Bytes}
 use Rattle.stages.specs.declared.stage.Purpose.{Purpose}
 use Rattle.stages.specs.declared.stage.Purpose.the-variants.{ToRead, ToWrite}
 use Rattle.stages.specs.declared.stage.Stage.{Stage}
-use Rattle.stages.specs.declared.stage.Stage.the-variants.{Upper, Lower, Writing, Over}
+use Rattle.stages.specs.declared.stage.Stage.the-variants.{Upper, Lower, Over}
+use Rattle.stages.specs.declared.stage.End.the-variants.{Drops}
+use Rattle.stages.specs.declared.stage.What.the-variants.{Array, Status}
 use Rattle.chip.specs.Event.{written}
-use Rattle.history.specs.Bytes.{Byte, topBit, number, readAs, reading}
-use Rattle.history.specs.History.{World, storeIf, stored, overlay, keepIf, keepFirst, effect}
-use Rattle.history.specs.Laws.Addresses.{Top, inCode, nowhere, top-of, next-place, start-one, start-two}
-use Rattle.history.specs.Laws.Stage.{settle, settle-elim, twoBytes, Progress, upper, lower, past, progress, came, stageIn, worldIn, world-write, stageAs, stageOf}
-
--- the stage, settled, and the world
-pub record Picture : Type 0 where
-  pub stage : Stage
-  pub world : World
-
-abbrev pub painted : Stage → World → Picture
-painted stage world = record { stage = stage; world = world }
-
--- what a rise leaves, and what the bytes so far come to
-abbrev pub drawn : List ℕ → Risen → Picture
-drawn xs r =
-    record {
-      stage = settle (r .stage);
-      world = record { latch = r .latch; kept = r .kept; array = written (r .note) xs };
-    }
-
-abbrev pub picture : Figure → World → ℕ → List Byte → Picture
-picture f w sh bs = record { stage = stageOf f sh bs; world = effect f w (reading f bs) }
+use Rattle.history.specs.Bytes.{Byte, Reading, latches, idles, topBit, number, address, readAs, reading}
+use Rattle.history.specs.History.{World, withLatch, storeIf, stored, overlay, keepIf, keepFirst, effect, atLeastOne, drops}
+use Rattle.history.specs.Laws.Addresses.{next-place, start-one, start-two}
+use Rattle.history.specs.Laws.Stage.{Ended, quiet, kept, ready, array, status, wrote, dataOf, Idle, Paged, Image, code, upper, lower, writing, keeping, over}
 
 abbrev pub seenIn : World → Bool → Bool → Seen
 seenIn w wp si = record { latch = w .latch; kept = w .kept; wp = wp; si = si }
 
--- a rise of SCK in this world and at this stage
-abbrev pub rising : Figure → World → Bool → Bool → Stage → Picture
-rising f w wp si stage = drawn (w .array) (rise f (seenIn w wp si) stage)
+-- the world after a rise
+abbrev pub risenWorld : World → Risen → World
+risenWorld v r = record { latch = r .latch; kept = r .kept; array = written (r .note) (v .array) }
 
--- what is shown makes no difference
-pub settle-rise :
-    (f : Figure) (w : World) (wp si : Bool) (stage : Stage) → rising f w wp si (settle stage) ≡ rising f w wp si stage
-unfolding rise settle
-settle-rise f w wp si =
-    settle-elim (λ a b. rising f w wp si a ≡ rising f w wp si b) (λ stage. refl) (λ what at. refl) (λ level bit at. refl) (λ level bit. refl)
+-- a rise leads to the image and the world of a reading
+pub record Leads (f : Figure) (w v : World) (sh : ℕ) (read : List Byte → Reading) (r : Risen) : Type 0 where
+  pub image : Image f sh read (r .stage)
+  pub world : risenWorld v r ≡ effect f w (read [])
+
+ended-rise : (f : Figure) (seen : Seen) {d : Bool} {stage : Stage} → Ended d stage → rise f seen stage ≡ select.quiet seen stage
+unfolding rise
+ended-rise f seen quiet = refl
+ended-rise f seen kept = refl
+ended-rise f seen (ready what at) = refl
+ended-rise f seen (array level bit at) = refl
+ended-rise f seen (status level bit) = refl
 
 -- a bit that makes no byte whole
-module _ (f : Figure) (v : World) (sh more : ℕ) (wp si : Bool) (t : takeBit sh si ≡ Part more) where
-  part-in : (purpose : Purpose) (p : Progress) → rising f v wp si (stageIn f sh purpose p) ≡ painted (stageIn f more purpose p) v
-  unfolding rise stageIn upperRise lowerRise writeRise settle written
-  part-in purpose upper = rw t
-  part-in purpose (lower page) = rw t
-  part-in ToWrite (past start bs) = rw t
-  part-in ToRead (past start bs) = refl
-
-  part-as : (code : ℕ) (bs : List Byte) (c : Command) → rising f v wp si (stageAs f sh code bs c) ≡ painted (stageAs f more code bs c) v
-  unfolding rise stageAs keepRise settle written
-  part-as code bs Wren = refl
-  part-as code bs Wrdi = refl
-  part-as code bs Rdsr = refl
-  part-as code [] Wrsr = rw t
-  part-as code (b ∷ bs) Wrsr = refl
-  part-as code bs Read = part-in ToRead (progress f (twoBytes f) code bs)
-  part-as code bs Write = part-in ToWrite (progress f (twoBytes f) code bs)
-  part-as code bs Other = refl
-
-  pub part-rise : (bs : List Byte) → rising f v wp si (stageOf f sh bs) ≡ painted (stageOf f more bs) v
-  unfolding rise stageOf codeRise settle written
-  part-rise [] = rw t
-  part-rise (op ∷ bs) = part-as (op .value) bs (command (f .ops) (op .value))
-
--- one data byte more
-one-more : (bs : List Byte) (b : Byte) → came (bs ++ b ∷ []) ≡ Bytes
-unfolding came
-one-more [] b = refl
-one-more (c ∷ bs) b = refl
-
-overlay-more :
-    (f : Figure) (start k : ℕ) (w : World) (bs : List Byte) (b : Byte)
-    → overlay f start k w (bs ++ b ∷ []) ≡ stored f (overlay f start k w bs) ((start + (k + length bs)) % f .size) b
-unfolding overlay
-overlay-more f start k w [] b = rw add-zero
-overlay-more f start k w (c ∷ bs) b =
-    rw (← add-one (length bs), add-comm (length bs) 1, ← add-assoc k 1)
-    (overlay-more f start (k + 1) (stored f w ((start + k) % f .size) c) bs b)
+pub part-rise :
+    (f : Figure) (w v : World) (sh more : ℕ) (wp si : Bool) {read : List Byte → Reading} {stage : Stage}
+    → takeBit sh si ≡ Part more → v ≡ effect f w (read []) → Image f sh read stage
+    → Leads f w v more read (rise f (seenIn v wp si) stage)
+unfolding rise codeRise upperRise lowerRise writeRise keepRise written
+part-rise f w v sh more wp si t e code = rw t (record { image = code; world = e })
+part-rise f w v sh more wp si t e (upper purpose i l) = rw t (record { image = upper purpose i l; world = e })
+part-rise f w v sh more wp si t e (lower purpose page l) = rw t (record { image = lower purpose page l; world = e })
+part-rise f w v sh more wp si t e (writing came start k now p d) = rw t (record { image = writing came start k now p d; world = e })
+part-rise f w v sh more wp si t e (keeping p) = rw t (record { image = keeping p; world = e })
+part-rise f w v sh more wp si t e (over now d s n) = rw (ended-rise f (seenIn v wp si) n) (record { image = over now d s n; world = e })
 
 -- a bit that makes a byte whole
-module _ (f : Figure) (fair : Fair f) (w : World) (sh : ℕ) (si : Bool)
+module _ (f : Figure) (fair : Fair f) (w v : World) (sh : ℕ) (si : Bool)
     (b : Byte) (small : b .value < 256) (t : takeBit sh si ≡ Whole (b .value)) where
+  idle-data : (purpose : Purpose) (at : ℕ) → Idle f (dataOf purpose at [])
+  unfolding effect overlay drops atLeastOne
+  idle-data ToRead at = record { world = λ w. refl; latch = refl }
+  idle-data ToWrite at = record { world = λ w. refl; latch = refl }
+
+  -- the op-code: of a READ or WRITE, by how many address bytes follow
+  whole-memory :
+      (purpose : Purpose) (read : List Byte → Reading) (count : ℕ)
+      → ((bs : List Byte) → read bs ≡ dataOf purpose (number (topBit f (b .value)) (take count bs) % f .size) (drop count bs))
+      → Header count (f .top)
+      → Image f fresh read (cond (eqb count 2) (Upper purpose fresh) (Lower purpose fresh (codePage f (b .value))))
+  whole-memory purpose read count p (one k n u) =
+      rw n
+      (lower {read = read} purpose (codePage f (b .value))
+      (record {
+        before = rw (p [], n) (idle-data purpose _);
+        start = λ l. number (topBit f (b .value)) (l ∷ []) % f .size;
+        follow = λ l bs. rw (p (l ∷ bs), n);
+        place = λ l h. start-one f fair (b .value) l k u h;
+      }))
+  whole-memory purpose read count p (two n u) =
+      rw n
+      (upper {read = read} purpose (rw (p [], n) (idle-data purpose _)) (λ h.
+      record {
+        before = rw (p (h ∷ []), n) (idle-data purpose _);
+        start = λ l. number (topBit f (b .value)) (h ∷ l ∷ []) % f .size;
+        follow = λ l bs. rw (p (h ∷ l ∷ bs), n);
+        place = λ l q. start-two f fair (b .value) h l u q;
+      }))
+
+  abbrev Led : (List Byte → Reading) → Risen → Type 0
+  Led read r = Leads f w v fresh read r
+
+  -- of any other command
+  ends : {stage : Stage} (r : Reading) → drops r ≡ false → Ended false stage → Image f fresh (λ bs. r) stage
+  ends r q n = over (λ w. effect f w r) false (record { world = λ w bs. refl; latch = λ bs. q }) n
+
+  whole-op : v ≡ w → (c : Command) → Led (λ bs. readAs f (b .value) bs c) (begun f (seenIn v (b .wp) si) (b .value) c)
+  unfolding readAs address effect overlay keepFirst drops written afterCode
+  whole-op e Wren = record { image = ends (latches true) refl quiet; world = ap (λ (u : World). withLatch u true) e }
+  whole-op e Wrdi = record { image = ends (latches false) refl quiet; world = ap (λ (u : World). withLatch u false) e }
+  whole-op e Rdsr = record { image = ends idles refl (ready Status 0); world = e }
+  whole-op e Wrsr = record { image = keeping (λ bs. refl); world = e }
+  whole-op e Read = record { image = whole-memory ToRead _ _ (λ bs. refl) (fair .header); world = e }
+  whole-op e Write =
+      record { image = whole-memory ToWrite _ _ (λ bs. refl) (fair .header); world = rw (drop-nil (f .«address_bytes»)) e }
+  whole-op e Other = record { image = ends idles refl quiet; world = e }
+
+  -- the last address byte
+  whole-address :
+      (purpose : Purpose) (page : ℕ) {read : List Byte → Reading} → v ≡ effect f w (read []) → Paged f purpose page read
+      → Led (λ bs. read (b ∷ bs)) (select.quiet (seenIn v (b .wp) si) (afterAddress purpose page (b .value)))
+  unfolding afterAddress effect overlay drops written
+  whole-address ToRead page e l =
+      record {
+        image =
+            over (λ w. w) false
+            (record { world = λ w bs. ap (effect f w) (l .follow b bs); latch = λ bs. ap drops (l .follow b bs) })
+            (ready Array (page * 256 + b .value));
+        world = e ∙ l .before .world w ∙ sym (ap (effect f w) (l .follow b []));
+      }
+  whole-address ToWrite page e l =
+      rw (l .place b small)
+      (record {
+        image =
+            writing NoByte (l .start b) 0 (λ w. w) (λ w bs. ap (effect f w) (l .follow b bs)) (λ bs. ap drops (l .follow b bs));
+        world = e ∙ l .before .world w ∙ sym (ap (effect f w) (l .follow b []));
+      })
+
+  -- a data byte of a WRITE, and the status byte
   note-stored :
-      (v : World) (at : ℕ) (verdict : Verdict)
+      (at : ℕ) (verdict : Verdict)
       → record { latch = v .latch; kept = v .kept; array = written (storeNote at (b .value) verdict) (v .array) }
       ≡ storeIf v at b verdict
   unfolding written storeIf
-  note-stored v at Allowed = refl
-  note-stored v at (HeldBack reason) = refl
+  note-stored at Allowed = refl
+  note-stored at (HeldBack reason) = refl
 
-  data-whole :
-      (start : ℕ) (bs : List Byte)
-      → rising f (overlay f start 0 w bs) (b .wp) si (stageIn f sh ToWrite (past start bs))
-      ≡ painted (stageIn f fresh ToWrite (past start (bs ++ b ∷ []))) (overlay f start 0 w (bs ++ b ∷ []))
-  unfolding rise stageIn writeRise settle
-  data-whole start bs =
-      rw (t, next-place f fair (start + length bs), overlay-more f start 0 w bs b, zero-add, one-more, length-append, ← add-assoc)
-      (ap (painted (Writing Bytes fresh ((start + length bs + 1) % f .size)))
-      (note-stored v at (mayStore f (v .latch) (v .kept) (b .wp) at)))
-    where
-      v : World
-      v = overlay f start 0 w bs
-
-      at : ℕ
-      at = (start + length bs) % f .size
-
-  memory-whole :
-      (purpose : Purpose) (two : Bool) → Top (f .top) two → (code : ℕ) (bs : List Byte)
-      → rising f (worldIn f w purpose (progress f two code bs)) (b .wp) si (stageIn f sh purpose (progress f two code bs))
-      ≡ painted (stageIn f fresh purpose (progress f two code (bs ++ b ∷ [])))
-      (worldIn f w purpose (progress f two code (bs ++ b ∷ [])))
-  unfolding rise stageIn progress worldIn upperRise lowerRise settle written overlay afterAddress came
-  memory-whole ToWrite false (inCode k u) code [] = rw (t, start-one f fair code b k u small)
-  memory-whole ToWrite false (inCode k u) code (l ∷ bs) = data-whole (number (topBit f code) (l ∷ []) % f .size) bs
-  memory-whole ToWrite true (nowhere u) code [] = rw t
-  memory-whole ToWrite true (nowhere u) code (h ∷ []) = rw (t, start-two f fair code h b u small)
-  memory-whole ToWrite true (nowhere u) code (h ∷ l ∷ bs) = data-whole (number (topBit f code) (h ∷ l ∷ []) % f .size) bs
-  memory-whole ToRead false (inCode k u) code [] = rw t
-  memory-whole ToRead false (inCode k u) code (l ∷ bs) = refl
-  memory-whole ToRead true (nowhere u) code [] = rw t
-  memory-whole ToRead true (nowhere u) code (h ∷ []) = rw t
-  memory-whole ToRead true (nowhere u) code (h ∷ l ∷ bs) = refl
+  wrote-more : (came : Came) (bs : List Byte) → wrote came (b ∷ bs) ≡ true
+  unfolding atLeastOne
+  wrote-more NoByte bs = refl
+  wrote-more Bytes bs = refl
 
   note-kept :
-      (verdict : Verdict)
-      → drawn (w .array) (keptBy f (seenIn w (b .wp) si) (b .value) verdict) ≡ painted (Over Drops) (keepIf f w b verdict)
-  unfolding written keepIf settle
-  note-kept Allowed = refl
-  note-kept (HeldBack reason) = refl
-
-  whole-as :
-      (code : ℕ) (bs : List Byte) (c : Command)
-      → rising f (effect f w (readAs f code bs c)) (b .wp) si (stageAs f sh code bs c)
-      ≡ painted (stageAs f fresh code (bs ++ b ∷ []) c) (effect f w (readAs f code (bs ++ b ∷ []) c))
-  unfolding rise stageAs readAs effect keepFirst keepRise settle written worldIn
-  whole-as code bs Wren = refl
-  whole-as code bs Wrdi = refl
-  whole-as code bs Rdsr = refl
-  whole-as code [] Wrsr = rw t (note-kept (mayKeep f (w .latch) (w .kept) (b .wp)))
-  whole-as code (d ∷ bs) Wrsr = refl
-  whole-as code bs Read = memory-whole ToRead (twoBytes f) (top-of (fair .header)) code bs
-  whole-as code bs Write =
-      rw (← world-write f w code bs (fair .header), ← world-write f w code (bs ++ b ∷ []) (fair .header))
-      (memory-whole ToWrite (twoBytes f) (top-of (fair .header)) code bs)
-  whole-as code bs Other = refl
-
-  -- the op-code
-  header-none : (purpose : Purpose) (two : Bool) (code : ℕ)
-      → settle (cond two (Upper purpose fresh) (Lower purpose fresh (codePage f code)))
-      ≡ stageIn f fresh purpose (progress f two code [])
-  unfolding settle stageIn progress
-  header-none purpose true code = refl
-  header-none purpose false code = refl
-
-  whole-op : (c : Command)
-      → drawn (w .array) (begun f (seenIn w (b .wp) si) (b .value) c)
-      ≡ painted (stageAs f fresh (b .value) [] c) (effect f w (readAs f (b .value) [] c))
-  unfolding stageAs readAs effect overlay keepFirst settle written afterCode
-  whole-op Wren = refl
-  whole-op Wrdi = refl
-  whole-op Rdsr = refl
-  whole-op Wrsr = refl
-  whole-op Read = ap (λ (stage : Stage). painted stage w) (header-none ToRead (twoBytes f) (b .value))
-  whole-op Write =
-      rw (drop-nil (f .«address_bytes»))
-      (ap (λ (stage : Stage). painted stage w) (header-none ToWrite (twoBytes f) (b .value)))
-  whole-op Other = refl
+      (read : List Byte → Reading) (verdict : Verdict) → Image f fresh (λ bs. read (b ∷ bs)) (Over Drops)
+      → keepIf f v b verdict ≡ effect f w (read (b ∷ []))
+      → Led (λ bs. read (b ∷ bs)) (keptBy f (seenIn v (b .wp) si) (b .value) verdict)
+  unfolding written keepIf
+  note-kept read Allowed i e = record { image = i; world = e }
+  note-kept read (HeldBack reason) i e = record { image = i; world = e }
 
   pub whole-rise :
-      (bs : List Byte)
-      → rising f (effect f w (reading f bs)) (b .wp) si (stageOf f sh bs)
-      ≡ painted (stageOf f fresh (bs ++ b ∷ [])) (effect f w (reading f (bs ++ b ∷ [])))
-  unfolding rise stageOf reading effect codeRise opened
-  whole-rise [] = rw t (whole-op (command (f .ops) (b .value)))
-  whole-rise (op ∷ bs) = whole-as (op .value) bs (command (f .ops) (op .value))
+      {read : List Byte → Reading} {stage : Stage} → v ≡ effect f w (read []) → Image f sh read stage
+      → Led (λ bs. read (b ∷ bs)) (rise f (seenIn v (b .wp) si) stage)
+  unfolding rise reading effect overlay keepFirst drops atLeastOne codeRise opened upperRise lowerRise writeRise keepRise written
+  whole-rise e code = rw t (whole-op e (command (f .ops) (b .value)))
+  whole-rise e (upper purpose i l) =
+      rw t
+      (record {
+        image = lower purpose (upperPage f (b .value)) (l b);
+        world = e ∙ i .world w ∙ sym (l b .before .world w);
+      })
+  whole-rise e (lower purpose page l) = rw t (whole-address purpose page e l)
+  whole-rise e (writing came start k now p d) =
+      rw (t, next-place f fair (start + k), add-assoc start k 1)
+      (record {
+        image =
+            writing Bytes start (k + 1) (λ w. stored f (now w) at b) (λ w bs. p w (b ∷ bs))
+            (λ bs. d (b ∷ bs) ∙ wrote-more came bs);
+        world =
+            note-stored at (mayStore f (v .latch) (v .kept) (b .wp) at) ∙ ap (λ (u : World). stored f u at b) (e ∙ p w [])
+            ∙ sym (p w (b ∷ []));
+      })
+    where
+      at : ℕ
+      at = (start + k) % f .size
+  whole-rise {read} e (keeping p) =
+      rw t
+      (note-kept read (mayKeep f (v .latch) (v .kept) (b .wp))
+      (over (λ w. keepFirst f w (b ∷ [])) true
+      (record { world = λ w bs. ap (effect f w) (p (b ∷ bs)); latch = λ bs. ap drops (p (b ∷ bs)) }) kept)
+      (ap (λ (u : World). keepFirst f u (b ∷ [])) (e ∙ ap (effect f w) (p [])) ∙ sym (ap (effect f w) (p (b ∷ [])))))
+  whole-rise e (over now d s n) =
+      rw (ended-rise f (seenIn v (b .wp) si) n)
+      (record {
+        image = over now d (record { world = λ w bs. s .world w (b ∷ bs); latch = λ bs. s .latch (b ∷ bs) }) n;
+        world = e ∙ s .world w [] ∙ sym (s .world w (b ∷ []));
+      })

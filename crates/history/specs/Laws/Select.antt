@@ -4,7 +4,7 @@ use Prim.Native.Nat.{ℕ, _≤_, _<_}
 use native.Mathlib.Omega.{arith}
 use mathlib.Core.Bool.{Bool, true, false, cond}
 use mathlib.Core.List.{List, [], _∷_, _++_}
-use mathlib.Core.Path.{_≡_, refl, sym, ap, _∙_}
+use mathlib.Core.Path.{_≡_, refl, ap}
 use lib.ListN.{length}
 use lib.Dec.{leb}
 use borrow.Author.Tests.{leb-true, leb-false}
@@ -17,52 +17,42 @@ use Rattle.select.specs.Rise.{rise}
 use Rattle.select.specs.declared.rise.Risen.{Risen}
 use Rattle.stages.specs.declared.stage.Stage.{Stage}
 use Rattle.stages.specs.declared.stage.Stage.the-variants.{Closed, Code}
-use Rattle.chip.specs.Event.{written}
 use Rattle.history.specs.Lines.{Bit, closes}
-use Rattle.history.specs.Bytes.{Byte, value, reading}
+use Rattle.history.specs.Bytes.{Byte, Reading, value, reading}
 use Rattle.history.specs.History.{World, withLatch, effect, drops}
 use Rattle.history.specs.Laws.Bytes.{Cut, cut-none, cut-bytes, cut-part, cut-whole, shiftOf, taken-part, taken-whole, value-whole}
-use Rattle.history.specs.Laws.Stage.{settle, settle-fall, stageOf, open-stage, drops-stage}
-use Rattle.history.specs.Laws.Rise.{Picture, painted, picture, drawn, seenIn, rising, settle-rise, part-rise, whole-rise}
+use Rattle.history.specs.Laws.Stage.{Image, code, image-open, image-drops, image-fall}
+use Rattle.history.specs.Laws.Rise.{seenIn, risenWorld, part-rise, whole-rise}
 use Rattle.history.specs.Laws.Place.{Place, outside, inside, isOutside, worldAt, base}
 
 -- the select of a chip over the history's place: `w` is the world before the open transfer, `v` the world now
 pub data Selected (f : Figure) (w : World) : Place → World → Stage → Type 0 where
   closed : Selected f w outside w Closed
   going :
-      (bs : List Bit) (whole : List Byte) (r : List Bit) (v : World) (stage : Stage)
-      → Cut bs whole r → painted (settle stage) v ≡ picture f w (shiftOf r) whole → Selected f w (inside bs) v stage
+      {bs : List Bit} {v : World} {stage : Stage} (read : List Byte → Reading) (r : List Bit)
+      → Cut f bs read r → v ≡ effect f w (read []) → Image f (shiftOf r) read stage → Selected f w (inside bs) v stage
 
 module _ (f : Figure) (w : World) where
   pub select-open : {p : Place} {v : World} {stage : Stage} → Selected f w p v stage → close.isClosed stage ≡ isOutside p
   select-open closed = refl
-  select-open (going bs whole r v stage c e) = open-stage f (shiftOf r) whole stage (ap (λ (p : Picture). p .stage) e)
+  select-open (going read r c e i) = image-open f i
 
   pub select-world : {p : Place} {v : World} {stage : Stage} → Selected f w p v stage → v ≡ worldAt f w p
   unfolding worldAt
   select-world closed = refl
-  select-world (going bs whole r v stage c e) = rw (cut-bytes bs whole r c) (ap (λ (p : Picture). p .world) e)
+  select-world (going read r c e i) = rw (cut-bytes f c) e
 
   pub select-fall :
       (xs : List ℕ) (status : ℕ) {p : Place} {v : World} {stage : Stage}
       → Selected f w p v stage → Selected f w p v (fall f xs status stage)
   unfolding fall
   select-fall xs status closed = closed
-  select-fall xs status (going bs whole r v stage c e) =
-      going bs whole r v (fall f xs status stage) c (rw (settle-fall f xs status stage) e)
+  select-fall xs status (going read r c e i) = going read r c e (image-fall f xs status i)
 
   -- a fresh select
   pub select-fresh : Selected f w (inside []) w (Code fresh)
-  unfolding settle stageOf effect reading value
-  select-fresh = going [] [] [] w (Code fresh) cut-none refl
-
--- the world after a rise
-abbrev pub risenWorld : World → Risen → World
-risenWorld v r = record { latch = r .latch; kept = r .kept; array = written (r .note) (v .array) }
-
--- a bit's rise, as a map of pictures
-abbrev edge : Figure → Bit → Picture → Picture
-edge f b p = rising f (p .world) (b .wp) (b .si) (p .stage)
+  unfolding effect reading value
+  select-fresh = going (reading f) [] (cut-none f) refl code
 
 module _ (f : Figure) (fair : Fair f) (w : World) where
   -- a seen rise of SCK: the bit joins those of the byte that is left, or makes it whole
@@ -71,13 +61,10 @@ module _ (f : Figure) (fair : Fair f) (w : World) where
       → Selected f w (inside (bs ++ b ∷ [])) (risenWorld v (rise f (seenIn v (b .wp) (b .si)) stage))
       (rise f (seenIn v (b .wp) (b .si)) stage .stage)
   unfolding value
-  select-rise b (going bs whole r v stage c e) = go (leb 7 (length r)) refl
+  select-rise b {bs} {v} {stage} (going read r c e i) = go (leb 7 (length r)) refl
     where
       risen : Risen
       risen = rise f (seenIn v (b .wp) (b .si)) stage
-
-      over : drawn (v .array) risen ≡ edge f b (picture f w (shiftOf r) whole)
-      over = sym (settle-rise f v (b .wp) (b .si) stage) ∙ ap (edge f b) e
 
       seventh : 7 ≤ length r → length r < 8 → length r ≡ 7
       seventh l h = omega arith
@@ -88,19 +75,17 @@ module _ (f : Figure) (fair : Fair f) (w : World) where
       go : (t : Bool) → leb 7 (length r) ≡ t → Selected f w (inside (bs ++ b ∷ [])) (risenWorld v risen) (risen .stage)
       go true q =
           let h : length r ≡ 7 = seventh (leb-true 7 (length r) q) (c .short) in
-          going (bs ++ b ∷ []) (whole ++ byte ∷ []) [] (risenWorld v risen) (risen .stage) (cut-whole bs whole r b c h)
-          (over ∙ whole-rise f fair w (shiftOf r) (b .si) byte (value-whole r b h) (taken-whole r b h) whole)
+          let l = whole-rise f fair w v (shiftOf r) (b .si) byte (value-whole r b h) (taken-whole r b h) e i in
+          going (λ more. read (byte ∷ more)) [] (cut-whole f b c h) (l .world) (l .image)
       go false q =
           let h : length r < 7 = leb-false 7 (length r) q in
-          going (bs ++ b ∷ []) whole (r ++ b ∷ []) (risenWorld v risen) (risen .stage) (cut-part bs whole r b c h)
-          (over
-          ∙ part-rise f (effect f w (reading f whole)) (shiftOf r) (shiftOf (r ++ b ∷ [])) (b .wp) (b .si) (taken-part r b h) whole)
+          let l = part-rise f w v (shiftOf r) (shiftOf (r ++ b ∷ [])) (b .wp) (b .si) (taken-part r b h) e i in
+          going read (r ++ b ∷ []) (cut-part f b c h) (l .world) (l .image)
 
   -- a seen rise of /CS
   pub select-close :
       {bs : List Bit} {v : World} {stage : Stage} → Selected f w (inside bs) v stage
       → cond (close.drops stage) (withLatch v false) v ≡ base f w (inside bs) closes
   unfolding base
-  select-close (going bs whole r v stage c e) =
-      rw (drops-stage f (shiftOf r) whole stage (fair .header) (ap (λ (p : Picture). p .stage) e), cut-bytes bs whole r c)
-      (ap (λ (p : Picture). cond (drops (reading f whole)) (withLatch (p .world) false) (p .world)) e)
+  select-close (going read r c e i) =
+      rw (image-drops f i, cut-bytes f c) (ap (λ (u : World). cond (drops (read [])) (withLatch u false) u) e)

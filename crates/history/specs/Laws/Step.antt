@@ -24,7 +24,7 @@ use Rattle.lines.specs.declared.hold.Hold.the-variants.{High, LowCsLow, LowCsHi
 use Rattle.history.specs.Lines.{Lines, rest, put, refusal, after, act}
 use Rattle.history.specs.History.{World}
 use Rattle.history.specs.Laws.Place.{Place, outside, inside, isOutside, worldAt, placed, base}
-use Rattle.history.specs.Laws.Select.{Selected, closed, going, select-open, select-world, select-fall, select-fresh, select-rise, select-close}
+use Rattle.history.specs.Laws.Select.{Selected, closed, select-open, select-world, select-fall, select-fresh, select-rise, select-close}
 
 -- the level of /CS, by /HOLD and whether no select is open
 abbrev csOf : Hold → Bool → Bool
@@ -109,9 +109,8 @@ module _ (part : ℕ) (fair : Fair (figureOf part)) where
 
     cs-low : After 0
     unfolding after refusal put act placed base worldAt step live csFall written
-    cs-low sck High _ _ _ closed = on (inside []) w w sck si wp High _ (select-fresh (figureOf part) w)
-    cs-low sck High _ _ _ (going bs whole r v stage c e) =
-        let s = going bs whole r v stage c e in
+    cs-low sck High outside _ _ closed = on (inside []) w w sck si wp High _ (select-fresh (figureOf part) w)
+    cs-low sck High (inside bs) v stage s =
         rw (select-open (figureOf part) w s) (on (inside bs) w v sck si wp High stage s)
     cs-low sck LowCsLow p v stage s = on p w v sck si wp LowCsLow stage s
     cs-low sck LowCsHigh p v stage s = on p w v sck si wp LowCsLow stage s
@@ -134,9 +133,8 @@ module _ (part : ℕ) (fair : Fair (figureOf part)) where
 
     cs-high : After 1
     unfolding after refusal put act placed base step live csRise written
-    cs-high sck High _ _ _ closed = on outside w w sck si wp High Closed closed
-    cs-high sck High _ _ _ (going bs whole r v stage c e) =
-        let s = going bs whole r v stage c e in
+    cs-high sck High outside _ _ closed = on outside w w sck si wp High Closed closed
+    cs-high sck High (inside bs) v stage s =
         rw (select-open (figureOf part) w s, ← select-close (figureOf part) fair w s)
         (closing sck (v .latch) (drops stage) (v .kept) (v .array))
     cs-high sck LowCsLow p v stage s = on p w v sck si wp LowCsHigh stage s
@@ -152,9 +150,8 @@ module _ (part : ℕ) (fair : Fair (figureOf part)) where
 
     sck-high : After 3
     unfolding after refusal put act placed base step live sckRise rise written
-    sck-high false High _ _ _ closed = on outside w w true si wp High Closed closed
-    sck-high false High _ _ _ (going bs whole r v stage c e) =
-        let s = going bs whole r v stage c e in
+    sck-high false High outside _ _ closed = on outside w w true si wp High Closed closed
+    sck-high false High (inside bs) v stage s =
         on _ w _ true si wp High _ (select-rise (figureOf part) fair w (record { si = si; wp = wp }) s)
     sck-high false LowCsLow p v stage s = on p w v true si wp LowCsLow stage s
     sck-high false LowCsHigh p v stage s = on p w v true si wp LowCsHigh stage s
@@ -171,9 +168,8 @@ module _ (part : ℕ) (fair : Fair (figureOf part)) where
     hold-low : After 6
     unfolding after refusal put act placed base step live holdFall written
     hold-low true High p v stage s = on p w v true si wp High stage s
-    hold-low false High _ _ _ closed = on outside w w false si wp LowCsHigh Closed closed
-    hold-low false High _ _ _ (going bs whole r v stage c e) =
-        let s = going bs whole r v stage c e in
+    hold-low false High outside _ _ closed = on outside w w false si wp LowCsHigh Closed closed
+    hold-low false High (inside bs) v stage s =
         rw (select-open (figureOf part) w s) (on (inside bs) w v false si wp LowCsLow stage s)
     hold-low sck LowCsLow p v stage s = on p w v sck si wp LowCsLow stage s
     hold-low sck LowCsHigh p v stage s = on p w v sck si wp LowCsHigh stage s
@@ -183,13 +179,11 @@ module _ (part : ℕ) (fair : Fair (figureOf part)) where
     hold-high sck High p v stage s = on p w v sck si wp High stage s
     hold-high true LowCsLow p v stage s = on p w v true si wp LowCsLow stage s
     hold-high true LowCsHigh p v stage s = on p w v true si wp LowCsHigh stage s
-    hold-high false LowCsLow _ _ _ closed = on outside w w false si wp LowCsLow Closed closed
-    hold-high false LowCsHigh _ _ _ closed = on outside w w false si wp High Closed closed
-    hold-high false LowCsLow _ _ _ (going bs whole r v stage c e) =
-        let s = going bs whole r v stage c e in
+    hold-high false LowCsLow outside _ _ closed = on outside w w false si wp LowCsLow Closed closed
+    hold-high false LowCsHigh outside _ _ closed = on outside w w false si wp High Closed closed
+    hold-high false LowCsLow (inside bs) v stage s =
         rw (select-open (figureOf part) w s) (on (inside bs) w v false si wp High stage s)
-    hold-high false LowCsHigh _ _ _ (going bs whole r v stage c e) =
-        let s = going bs whole r v stage c e in
+    hold-high false LowCsHigh (inside bs) v stage s =
         rw (select-open (figureOf part) w s) (on (inside bs) w v false si wp LowCsHigh stage s)
 
     wp-low : After 8
@@ -255,12 +249,10 @@ module _ (part : ℕ) where
   rise-alike si wp sck High s = refl
   rise-alike si wp true LowCsLow s = refl
   rise-alike si wp true LowCsHigh s = refl
-  rise-alike si wp false LowCsLow closed = refl
-  rise-alike si wp false LowCsHigh closed = refl
-  rise-alike {w = w} si wp false LowCsLow (going bs whole r v stage c e) =
-      rw (select-open (figureOf part) w (going bs whole r v stage c e))
-  rise-alike {w = w} si wp false LowCsHigh (going bs whole r v stage c e) =
-      rw (select-open (figureOf part) w (going bs whole r v stage c e))
+  rise-alike {p = outside} {w = w} si wp false LowCsLow s = rw (select-open (figureOf part) w s)
+  rise-alike {p = outside} {w = w} si wp false LowCsHigh s = rw (select-open (figureOf part) w s)
+  rise-alike {p = inside bs} {w = w} si wp false LowCsLow s = rw (select-open (figureOf part) w s)
+  rise-alike {p = inside bs} {w = w} si wp false LowCsHigh s = rw (select-open (figureOf part) w s)
 
   pub refuses : {l : Lines} {p : Place} {w : World} {c : Chip} (code : ℕ) → leb 12 code ≡ false → Agrees part l p w c → Refuses l c code
   unfolding refusal step live
