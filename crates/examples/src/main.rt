@@ -1,13 +1,12 @@
-// Calls of the chip, one by one, as the file `stdin` says, and what each answers: document 01's examples 13, 14 and 15, and
-// what a trace cannot show, as notes, refusals 2, 4 and 5 and what stands after a refusal. Each line of the file `stdout`
-// was worked out by hand; the comment above the calls says why.
+// Calls of the chip, one by one, as the file `stdin` says, and what each answers: document 01's examples 13 and 15, and what a
+// trace cannot show, as notes, refusals 2, 4 and 5 and what follows a refusal. Each line of the file `stdout` was worked out
+// by hand; the comment above the calls says why.
 //
 // A line of the input is a comment, `# ..`; a title, `== ..`, which is printed; or a letter and hex numbers, for each of
 // which the letter is done in turn:
 //   k, l      the kept bits of a power-up, the length of the array that is lent, from here on
 //   u, f      power-up of this part; the fill of the array for this part
-//   v, b      this event, this data byte as 24 events; nothing is printed
-//   e         this event
+//   v, e      this event, with nothing printed; this event
 //   w, r      the lender writes this byte at address 0; the byte at this address
 //   S         the state in an op-code of which these bits came, with the 1 before them
 use chip::event::event;
@@ -129,7 +128,8 @@ fn call(desk: Desk, array: &mut [u8], n: u64) -> Desk {
             desk
         }
         b'f' => {
-            say_number(b"fill: refused ", wide(fill(n, array)));
+            let refusal = fill(n, array);
+            say_number(b"fill: refused ", refusal as u64);
             say(b"\n");
             desk
         }
@@ -146,8 +146,10 @@ fn move_chip(desk: Desk, array: &mut [u8], n: u64) -> State {
     let letter = desk.letter;
     match letter {
         b'u' => tell_power_up(array, n, desk.kept),
-        b'v' => send(chip, array, n),
-        b'b' => send_byte(chip, array, (n % 256) as u8),
+        b'v' => {
+            let answer = event(chip, array, n);
+            answer.state
+        }
         b'e' => tell_event(chip, array, n),
         b'S' => State {
             stage: Stage::Code {
@@ -160,26 +162,6 @@ fn move_chip(desk: Desk, array: &mut [u8], n: u64) -> State {
             chip
         }
     }
-}
-
-fn send(chip: State, array: &mut [u8], code: u64) -> State {
-    let answer = event(chip, array, code);
-    answer.state
-}
-
-// "clocked in as eight times SI, SCK up, SCK down"
-fn send_byte(start: State, array: &mut [u8], byte: u8) -> State {
-    let mut chip = start;
-    let mut left = byte;
-    let mut k: u8 = 0;
-    while k < 8 {
-        chip = send(chip, array, if left < 0x80 { 4 } else { 5 });
-        chip = send(chip, array, 3);
-        chip = send(chip, array, 2);
-        left = left << 1;
-        k += 1;
-    }
-    chip
 }
 
 fn say(text: &[u8]) {
@@ -199,19 +181,16 @@ fn say_level(level: Level) {
     }
 }
 
-// Reasons are left to the computed examples of the crate chip.
+// The other notes are left to the computed examples of the crate chip.
 fn say_note(note: Note) {
     match note {
         Note::Nothing => say(b", nothing"),
-        Note::Latch(on) => say_number(b", latch ", on as u64),
         Note::Stored(at, byte) => {
             say_number(b", stored ", at as u64);
             say_number(b" ", byte as u64);
         }
-        Note::HeldBack(at, _) => say_number(b", held back ", at as u64),
-        Note::KeptSet(kept) => say_number(b", kept bits set ", kept as u64),
-        Note::KeptHeldBack(_) => say(b", kept bits held back"),
         Note::PowerLost => say(b", power lost"),
+        _ => say(b", another note"),
     }
 }
 
