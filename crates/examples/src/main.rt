@@ -14,16 +14,10 @@ use chip::power::fill;
 use chip::power::power_up;
 use libc::STDIN_FILENO;
 use libc::STDOUT_FILENO;
-use lines::hold::hold_high;
 use lines::state::State;
 use select::notes::Level;
 use select::notes::Note;
-use stages::stage::Came;
-use stages::stage::End;
-use stages::stage::Line;
-use stages::stage::Purpose;
 use stages::stage::Stage;
-use stages::stage::What;
 
 // The line's letter, 0 at its start; the number so far; what is set for the calls; and the chip.
 struct Desk {
@@ -194,90 +188,17 @@ fn say_note(note: Note) {
     }
 }
 
-// A stage in numbers, so that two can be compared: one kind for each case of it and of what it holds.
-struct Stamp {
-    kind: u8,
-    bits: u16,
-    at: usize,
-}
-
-fn stamped(kind: u8, bits: u16, at: usize) -> Stamp {
-    Stamp { kind, bits, at }
-}
-
-fn stamp_of(stage: Stage) -> Stamp {
-    match stage {
-        Stage::Closed => stamped(0, 0, 0),
-        Stage::Code { shift } => stamped(1, shift, 0),
-        Stage::Upper { purpose, shift } => match purpose {
-            Purpose::ToRead => stamped(2, shift, 0),
-            Purpose::ToWrite => stamped(3, shift, 0),
-        },
-        Stage::Lower {
-            purpose,
-            shift,
-            page,
-        } => match purpose {
-            Purpose::ToRead => stamped(4, shift, page as usize),
-            Purpose::ToWrite => stamped(5, shift, page as usize),
-        },
-        Stage::Ready { what, at } => match what {
-            What::Array => stamped(6, 0, at),
-            What::Status => stamped(7, 0, at),
-        },
-        Stage::ArrayOut { level, bit, at } => match level {
-            Line::Down => stamped(8, bit, at),
-            Line::Up => stamped(9, bit, at),
-        },
-        Stage::StatusOut { level, bit } => match level {
-            Line::Down => stamped(10, bit, 0),
-            Line::Up => stamped(11, bit, 0),
-        },
-        Stage::Writing { came, shift, at } => match came {
-            Came::NoByte => stamped(12, shift, at),
-            Came::Bytes => stamped(13, shift, at),
-        },
-        Stage::Keeping { shift } => stamped(14, shift, 0),
-        Stage::Over { end } => match end {
-            End::Quiet => stamped(15, 0, 0),
-            End::Drops => stamped(16, 0, 0),
-        },
-    }
-}
-
-// Whether two states are the same, field by field; /HOLD low has its level of /CS besides.
-fn same(a: State, b: State) -> bool {
-    let hold_a = a.hold;
-    let hold_b = b.hold;
-    let stage_a = a.stage;
-    let stage_b = b.stage;
-    let x = stamp_of(stage_a);
-    let y = stamp_of(stage_b);
-    let fields = (a.part == b.part)
-        & (a.kept == b.kept)
-        & (a.power == b.power)
-        & (a.latch == b.latch);
-    let lines = (a.sck == b.sck) & (a.si == b.si) & (a.wp == b.wp) & (a.cs() == b.cs());
-    let stages = (x.kind == y.kind) & (x.bits == y.bits) & (x.at == y.at);
-    fields & lines & (hold_high(hold_a) == hold_high(hold_b)) & stages
-}
-
 // A line for an event, and the state after it.
 fn tell_event(chip: State, array: &mut [u8], code: u64) -> State {
     let answer = event(chip, array, code);
     let so = answer.so;
     let note = answer.note;
-    let state = answer.state;
     say_number(b"event ", code);
     say_number(b": refused ", answer.refusal as u64);
     say_level(so);
     say_note(note);
-    if same(chip, state) {
-        say(b", state as given\n");
-    } else {
-        say(b", state moved\n");
-    }
-    state
+    say(b"\n");
+    answer.state
 }
 
 // A line for a power-up, and the state after it.
