@@ -15,24 +15,24 @@ use Rattle.lines.specs.Edges.{csFall, csRise, sckRise, sckFall, holdFall, holdR
 use Rattle.lines.specs.Sound.{rests, sound}
 use Rattle.lines.specs.Watch.{isOpen, seesRise}
 use Rattle.chip.specs.Event.{csStayed, live, step, checks, event, written}
-use Rattle.chip.specs.Examples.Run.{all}
+use Rattle.chip.specs.Examples.Run.{allHold}
 use Rattle.chip.specs.Examples.Starred.{starred}
 use Rattle.chip.specs.Examples.Rules.{ofLines, ofCodes, ofOutput, ofWriting, ofGuards, ofHold, rules}
-use Rattle.chip.specs.Examples.Calls.{allRefused, refused, allPowered, powered, allFilled, fillings}
+use Rattle.chip.specs.Examples.Calls.{allRefused, refusedEvents, allPowered, powerings, allFilled, fillings}
 use Rattle.chip.specs.Power.{fillRefusal, filled, powerRefusal, powerUp}
 pub mod Run
 pub mod Starred
 pub mod Rules
 pub mod Calls
 
-pub starred-hold : T (all starred)
+pub starred-hold : T (allHold starred)
 unfolding clocked starred figureOf command firstProtected mayStore mayKeep afterCode afterAddress nextAddress takeBit bitOf showArray showStatus fall opened codeRise upperRise lowerRise writeRise keepRise rise soundStage csFall csRise sckRise sckFall holdFall holdRise csStayed live step checks event written rests sound isOpen seesRise fillRefusal filled powerRefusal powerUp
 starred-hold = tt
 
-pub rules-hold : T (all rules)
+pub rules-hold : T (allHold rules)
 unfolding clocked rules ofLines ofCodes ofOutput ofWriting ofGuards ofHold figureOf command firstProtected mayStore mayKeep afterCode afterAddress nextAddress takeBit bitOf showArray showStatus fall opened codeRise upperRise lowerRise writeRise keepRise rise soundStage csFall csRise sckRise sckFall holdFall holdRise csStayed live step checks event written rests sound isOpen seesRise fillRefusal filled powerRefusal powerUp
 rules-hold = tt
 
-pub calls-hold : T (allRefused refused && allPowered powered && allFilled fillings)
-unfolding refused powered fillings figureOf soundStage live step checks event rests sound fillRefusal filled powerRefusal powerUp
+pub calls-hold : T (allRefused refusedEvents && allPowered powerings && allFilled fillings)
+unfolding refusedEvents powerings fillings figureOf soundStage live step checks event rests sound fillRefusal filled powerRefusal powerUp
 calls-hold = tt

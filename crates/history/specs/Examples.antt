@@ -1,31 +1,32 @@
 -- The chip's own examples (its Examples), the starred ones and those of each rule, told by the history: the two are held to
 -- the same events and the same outcomes. One more for what those leave open. Computed; assumes nothing.
 use Prim.Native.Nat.{ℕ}
-use mathlib.Core.Bool.{Bool, true, false, not, _&&_, _||_}
+use mathlib.Core.Bool.{Bool, true, false, _&&_}
 use mathlib.Core.List.{List, [], _∷_, _++_}
-use lib.Dec.{T, eqb}
+use lib.Dec.{T}
 use Rattle.parts.specs.Figures.{figureOf}
 use Rattle.parts.specs.Commands.{command}
 use Rattle.parts.specs.Guards.{firstProtected, mayStore, mayKeep}
+use Rattle.stages.specs.Bits.{lowBit}
 use Rattle.stages.specs.Clocked.{clocked}
 use Rattle.select.specs.declared.notes.Note.the-variants.{Latch, Stored, KeptSet}
-use Rattle.chip.specs.Examples.Run.{Example, writes, idle, transfer, wren, same, blank, overlaid}
+use Rattle.chip.specs.Examples.Run.{Example, writes, idle, transfer, wren, same, blank, withStored}
 use Rattle.chip.specs.Examples.Starred.{starred}
 use Rattle.chip.specs.Examples.Rules.{ofLines, ofCodes, ofOutput, ofWriting, ofGuards, ofHold, rules}
 use Rattle.history.specs.Lines.{put, refusal, after, act, acts}
 use Rattle.history.specs.Transfers.{opened, spans}
 use Rattle.history.specs.Bytes.{value, eights, bytes, topBit, number, address, readAs, reading}
-use Rattle.history.specs.History.{World, storeIf, overlay, keepIf, keepFirst, effect, atLeastOne, drops, spanned, inOrder, history}
+use Rattle.history.specs.History.{storeIf, overlay, keepIf, keepFirst, effect, atLeastOne, drops, spanned, inOrder, history}
 
 -- the latch, the kept bits and every byte of the array
-abbrev leaves : World → Bool → ℕ → List ℕ → Bool
-leaves w latch kept array =
-    (w .latch && latch || not (w .latch) && not latch) && eqb (w .kept) kept && same (w .array) array
+abbrev numbers : Bool → ℕ → List ℕ → List ℕ
+numbers latch kept array = lowBit latch ∷ kept ∷ array
 
 abbrev told : Example → Bool
 told e =
-    leaves (history (e .part) (e .kept) (blank (e .part)) (e .events)) (e .state .latch) (e .state .kept)
-    (overlaid (blank (e .part)) (e .notes))
+    let w = history (e .part) (e .kept) (blank (e .part)) (e .events) in
+    same (numbers (w .latch) (w .kept) (w .array))
+    (numbers (e .state .latch) (e .state .kept) (withStored (blank (e .part)) (e .notes)))
 
 abbrev toldAll : List Example → Bool
 toldAll [] = true

@@ -51,8 +51,8 @@ abbrev in3 : Stage → State
 in3 stage = withStage (atRest 3 0 true) false stage
 
 -- "An event checks 4, 2, 5, 6, 7."
-unfoldable pub refused : List Refused
-refused =
+unfoldable pub refusedEvents : List Refused
+refusedEvents =
     -- 15. "Array of 511 or 513: 2. Event 11 and 12: accepted, 5."
     refuses (atRest 1 0 true) 511 11 2 ∷ refuses (atRest 1 0 true) 513 11 2 ∷ refuses (atRest 1 0 true) 512 11 0
     ∷ refuses (atRest 1 0 true) 512 12 5
@@ -106,8 +106,8 @@ allPowered [] = true
 allPowered (c ∷ cs) = powersUp c (powerUp (c .part) (c .kept) (replicate (c .len) 0)) && allPowered cs
 
 -- "Power-up checks 1, 2, 3."
-unfoldable pub powered : List Powering
-powered =
+unfoldable pub powerings : List Powering
+powerings =
     fails 0 0 0 1 ∷ fails 4 0x01 511 1 ∷ fails 257 0 512 1
     ∷ fails 1 0x01 511 2 ∷ fails 1 0 513 2 ∷ fails 2 0 2048 2 ∷ fails 3 0 512 2
     ∷ fails 1 0x01 512 3 ∷ fails 1 0x80 512 3 ∷ fails 2 0x80 512 3 ∷ fails 3 0x8D 2048 3 ∷ fails 1 256 512 3 ∷ fails 1 0x10C 512 3

@@ -20,17 +20,16 @@ use Rattle.stages.specs.declared.stage.What.{What}
 use Rattle.stages.specs.declared.stage.What.the-variants.{Array, Status}
 use Rattle.select.specs.Notes.{NoteNumbers, levelNumber, noteNumbers}
 use Rattle.select.specs.declared.notes.Note.{Note}
-use Rattle.select.specs.declared.notes.Note.the-variants.{Nothing, Latch, Stored, HeldBack, KeptSet, KeptHeldBack, PowerLost}
 use Rattle.lines.specs.Edges.{withSi, withWp, withStage}
 use Rattle.lines.specs.Lines.{atRest}
 use Rattle.lines.specs.Watch.{seesRise}
 use Rattle.lines.specs.declared.hold.Hold.{Hold}
 use Rattle.lines.specs.declared.hold.Hold.the-variants.{High, LowCsLow, LowCsHigh}
 use Rattle.lines.specs.declared.state.State.{State}
-use Rattle.chip.specs.Event.{event, written}
+use Rattle.chip.specs.Event.{event}
 use Rattle.chip.specs.Power.{fillRefusal, filled, powerUp}
 use Rattle.chip.specs.declared.event.Answer.{Answer}
-use Rattle.chip.specs.declared.power.Powered.{Powered}
+use Rattle.chip.specs.Run.{Chip, answered, begun}
 
 -- what is sent
 
@@ -83,38 +82,36 @@ wpLow s = withWp s false
 
 -- what comes of it
 
-pub record Run : Type 0 where
+pub record Told : Type 0 where
   pub refusals : List ℕ
   pub notes : List ℕ
   -- SO in the answer before each seen rise
   pub levels : List ℕ
   pub so : ℕ
-  pub state : State
-  pub array : List ℕ
+  pub chip : Chip
 
-abbrev pub orNone : ℕ → List ℕ → List ℕ
-orNone n more = cond (eqb n 0) more (n ∷ more)
+abbrev pub refusalThen : ℕ → List ℕ → List ℕ
+refusalThen n more = cond (eqb n 0) more (n ∷ more)
 
-abbrev pub noted : NoteNumbers → List ℕ → List ℕ
-noted n more = cond (eqb (n .kind) 0) more (n .kind ∷ n .first ∷ n .second ∷ more)
+abbrev pub noteThen : NoteNumbers → List ℕ → List ℕ
+noteThen n more = cond (eqb (n .kind) 0) more (n .kind ∷ n .first ∷ n .second ∷ more)
 
-abbrev pub answered : State → ℕ → ℕ → Answer → Run → Run
-answered s so code a r =
+abbrev pub answerThen : State → ℕ → ℕ → Answer → Told → Told
+answerThen s so code a r =
     record {
-      refusals = orNone (a .refusal) (r .refusals);
-      notes = noted (noteNumbers (a .note)) (r .notes);
+      refusals = refusalThen (a .refusal) (r .refusals);
+      notes = noteThen (noteNumbers (a .note)) (r .notes);
       levels = cond (seesRise s code) (so ∷ r .levels) (r .levels);
       so = r .so;
-      state = r .state;
-      array = r .array;
+      chip = r .chip;
     }
 
--- the single calls one after the other, each over what the one before it left
-abbrev pub run : State → ℕ → List ℕ → List ℕ → Run
-run s so xs [] = record { refusals = []; notes = []; levels = []; so = so; state = s; array = xs }
-run s so xs (code ∷ codes) =
-    let a = event xs s code in
-    answered s so code a (run (a .state) (levelNumber (a .so)) (written (a .note) xs) codes)
+-- the chip's run, with what each answer told
+abbrev pub toldOf : Chip → ℕ → List ℕ → Told
+toldOf c so [] = record { refusals = []; notes = []; levels = []; so = so; chip = c }
+toldOf c so (code ∷ codes) =
+    let a = event (c .array) (c .state) code in
+    answerThen (c .state) so code a (toldOf (answered c a) (levelNumber (a .so)) codes)
 
 -- how the two are compared
 
@@ -138,7 +135,7 @@ bitsOf (byte ∷ bytes) = bits byte ++ bitsOf bytes
 
 abbrev pub numbersOf : List Note → List ℕ
 numbersOf [] = []
-numbersOf (note ∷ notes) = noted (noteNumbers note) (numbersOf notes)
+numbersOf (note ∷ notes) = noteThen (noteNumbers note) (numbersOf notes)
 
 abbrev pub whatNumber : What → ℕ
 whatNumber Array = 0
@@ -182,24 +179,20 @@ abbrev pub blank : ℕ → List ℕ
 blank part = replicate (figureOf part .size) 0
 
 -- an array in which the bytes of the stored notes stand
-abbrev pub overlaid : List ℕ → List Note → List ℕ
-overlaid xs [] = xs
-overlaid xs (Nothing ∷ notes) = overlaid xs notes
-overlaid xs (Latch on ∷ notes) = overlaid xs notes
-overlaid xs (Stored at byte ∷ notes) = overlaid (set xs at byte) notes
-overlaid xs (HeldBack at reason ∷ notes) = overlaid xs notes
-overlaid xs (KeptSet kept ∷ notes) = overlaid xs notes
-overlaid xs (KeptHeldBack reason ∷ notes) = overlaid xs notes
-overlaid xs (PowerLost ∷ notes) = overlaid xs notes
+abbrev pub withStored : List ℕ → List Note → List ℕ
+withStored xs [] = xs
+withStored xs (note ∷ notes) =
+    let n = noteNumbers note in
+    withStored (cond (eqb (n .kind) 2) (set xs (n .first) (n .second)) xs) notes
 
-abbrev pub ends : Example → Run → Bool
+abbrev pub ends : Example → Told → Bool
 ends e r =
     same (r .refusals) (e .refusals)
     && same (r .notes) (numbersOf (e .notes))
     && same (driven (r .levels)) (bitsOf (e .shown))
     && eqb (r .so) (e .so)
-    && same (stateNumbers (r .state)) (stateNumbers (e .state))
-    && same (r .array) (overlaid (blank (e .part)) (e .notes))
+    && same (stateNumbers (r .chip .state)) (stateNumbers (e .state))
+    && same (r .chip .array) (withStored (blank (e .part)) (e .notes))
 
 -- over a lent array that held EE
 abbrev pub lent : ℕ → List ℕ
@@ -209,9 +202,10 @@ lent part = replicate (figureOf part .size) 0xEE
 abbrev pub holds : Example → Bool
 holds e =
     let xs = filled (e .part) (lent (e .part)) in
-    let p = powerUp (e .part) (e .kept) xs in
-    eqb (fillRefusal (e .part) (figureOf (e .part) .size)) 0 && eqb (p .refusal) 0 && ends e (run (p .state) 2 xs (e .events))
+    eqb (fillRefusal (e .part) (figureOf (e .part) .size)) 0
+    && eqb (powerUp (e .part) (e .kept) xs .refusal) 0
+    && ends e (toldOf (begun (e .part) (e .kept) xs) 2 (e .events))
 
-abbrev pub all : List Example → Bool
-all [] = true
-all (e ∷ es) = holds e && all es
+abbrev pub allHold : List Example → Bool
+allHold [] = true
+allHold (e ∷ es) = holds e && allHold es
