@@ -8,7 +8,7 @@ use Rattle.parts.specs.Commands.{command}
 use Rattle.parts.specs.declared.figures.Figure.{Figure}
 use Rattle.parts.specs.declared.commands.Command.{Command}
 use Rattle.parts.specs.declared.commands.Command.the-variants.{Wren, Wrdi, Rdsr, Wrsr, Read, Write, Other}
-use Rattle.history.specs.Lines.{Bit}
+use Rattle.history.specs.Wire.{Bit}
 
 -- a whole byte: its value, and the level of /WP at its eighth bit
 pub record Byte : Type 0 where
@@ -16,13 +16,13 @@ pub record Byte : Type 0 where
   pub wp : Bool
 
 -- "most significant bit first"
-unfoldable pub value : List Bit → ℕ
-value [] = 0
-value (b ∷ bs) = cond (b .si) 1 0 * 2 ^ length bs + value bs
+unfoldable pub bitsValue : List Bit → ℕ
+bitsValue [] = 0
+bitsValue (b ∷ bs) = cond (b .si) 1 0 * 2 ^ length bs + bitsValue bs
 
 -- "/WP is read at the eighth rise of the data byte (H)." The bit that `getD` names for want of an eighth is never read.
 abbrev pub byte : List Bit → Byte
-byte bits = record { value = value bits; wp = getD bits 7 (record { si = false; wp = true }) .wp }
+byte bits = record { value = bitsValue bits; wp = getD bits 7 (record { si = false; wp = true }) .wp }
 
 -- so many bytes' bits
 unfoldable pub eights : ℕ → List Bit → List (List Bit)
@@ -30,8 +30,8 @@ eights zero bits = []
 eights (suc n) bits = take 8 bits ∷ eights n (drop 8 bits)
 
 -- "each whole memory byte", "the first whole status byte": fewer than eight bits at the end are no byte
-unfoldable pub bytes : List Bit → List Byte
-bytes bits = map byte (eights (length bits / 8) bits)
+unfoldable pub wholeBytes : List Bit → List Byte
+wholeBytes bits = map byte (eights (length bits / 8) bits)
 
 -- "op-code bit 3 is the top bit": the address bit that the op-code holds, 0 where the part has none there
 unfoldable pub topBit : Figure → ℕ → ℕ
@@ -64,6 +64,6 @@ readAs f code bs Write = stores (address f code bs) (drop (f .«address_bytes»)
 readAs f code bs Other = idles
 
 -- "The first eight bits are the op-code"
-unfoldable pub reading : Figure → List Byte → Reading
-reading f [] = idles
-reading f (op ∷ bs) = readAs f (op .value) bs (command (f .ops) (op .value))
+unfoldable pub readTransfer : Figure → List Byte → Reading
+readTransfer f [] = idles
+readTransfer f (op ∷ bs) = readAs f (op .value) bs (command (f .ops) (op .value))

@@ -13,10 +13,10 @@ use Rattle.select.specs.declared.notes.Note.the-variants.{Latch, Stored, KeptSe
 use Rattle.chip.specs.Examples.Run.{Example, writes, idle, transfer, wren, same, blank, withStored}
 use Rattle.chip.specs.Examples.Starred.{starred}
 use Rattle.chip.specs.Examples.Rules.{ofLines, ofCodes, ofOutput, ofWriting, ofGuards, ofHold, rules}
-use Rattle.history.specs.Lines.{put, refusal, after, act, acts}
-use Rattle.history.specs.Transfers.{opened, spans}
-use Rattle.history.specs.Bytes.{value, eights, bytes, topBit, number, address, readAs, reading}
-use Rattle.history.specs.History.{storeIf, overlay, keepIf, keepFirst, effect, atLeastOne, drops, spanned, inOrder, history}
+use Rattle.history.specs.Wire.{put, refusal, afterOne, act, acts}
+use Rattle.history.specs.Transfers.{transferFrom, spans}
+use Rattle.history.specs.Bytes.{bitsValue, eights, wholeBytes, topBit, number, address, readAs, readTransfer}
+use Rattle.history.specs.History.{storeIf, overlay, keepIf, keepFirst, effect, atLeastOne, latchDrops, spanned, inOrder, history}
 
 -- the latch, the kept bits and every byte of the array
 abbrev numbers : Bool → ℕ → List ℕ → List ℕ
@@ -41,5 +41,5 @@ blocksAfter =
     (idle 1 0x0C false false)
 
 pub examples : T (toldAll (blocksAfter ∷ starred ++ rules))
-unfolding clocked starred rules ofLines ofCodes ofOutput ofWriting ofGuards ofHold history inOrder spanned drops atLeastOne effect keepFirst keepIf overlay storeIf reading readAs address number topBit bytes eights value opened spans acts act after refusal put figureOf command firstProtected mayStore mayKeep
+unfolding clocked starred rules ofLines ofCodes ofOutput ofWriting ofGuards ofHold history inOrder spanned latchDrops atLeastOne effect keepFirst keepIf overlay storeIf readTransfer readAs address number topBit wholeBytes eights bitsValue transferFrom spans acts act afterOne refusal put figureOf command firstProtected mayStore mayKeep
 examples = tt

@@ -11,9 +11,9 @@ use Rattle.parts.specs.Guards.{mayStore, mayKeep}
 use Rattle.parts.specs.declared.figures.Figure.{Figure}
 use Rattle.parts.specs.declared.guards.Verdict.{Verdict}
 use Rattle.parts.specs.declared.guards.Verdict.the-variants.{Allowed, HeldBack}
-use Rattle.history.specs.Lines.{rest, acts}
+use Rattle.history.specs.Wire.{rest, acts}
 use Rattle.history.specs.Transfers.{Span, transfer, cut, spans}
-use Rattle.history.specs.Bytes.{Byte, bytes, Reading, latches, stores, keeps, idles, reading}
+use Rattle.history.specs.Bytes.{Byte, wholeBytes, Reading, latches, stores, keeps, idles, readTransfer}
 
 -- what the history speaks of
 pub record World : Type 0 where
@@ -29,13 +29,13 @@ unfoldable pub storeIf : World → ℕ → Byte → Verdict → World
 storeIf w at b Allowed = record { latch = w .latch; kept = w .kept; array = set (w .array) at (b .value) }
 storeIf w at b (HeldBack reason) = w
 
-abbrev pub stored : Figure → World → ℕ → Byte → World
-stored f w at b = storeIf w at b (mayStore f (w .latch) (w .kept) (b .wp) at)
+abbrev pub overlaid : Figure → World → ℕ → Byte → World
+overlaid f w at b = storeIf w at b (mayStore f (w .latch) (w .kept) (b .wp) at)
 
 -- "overlaid in order of arrival": data byte number k of a WRITE goes k places on from its first address, "rolling over"
 unfoldable pub overlay : Figure → ℕ → ℕ → World → List Byte → World
 overlay f start k w [] = w
-overlay f start k w (b ∷ bs) = overlay f start (k + 1) (stored f w ((start + k) % f .size) b) bs
+overlay f start k w (b ∷ bs) = overlay f start (k + 1) (overlaid f w ((start + k) % f .size) b) bs
 
 -- "and by the first whole status byte of each transfer, if it came with the latch and the protect line in its favour",
 -- "under the part's mask". "Further bytes do nothing (H)."
@@ -59,19 +59,19 @@ unfoldable pub atLeastOne : List Byte → Bool
 atLeastOne [] = false
 atLeastOne (b ∷ bs) = true
 
-unfoldable pub drops : Reading → Bool
-drops (latches on) = false
-drops (stores start bs) = atLeastOne bs
-drops (keeps bs) = atLeastOne bs
-drops idles = false
+unfoldable pub latchDrops : Reading → Bool
+latchDrops (latches on) = false
+latchDrops (stores start bs) = atLeastOne bs
+latchDrops (keeps bs) = atLeastOne bs
+latchDrops idles = false
 
 -- a transfer, as far as it came
 abbrev pub transferred : Figure → World → Reading → Bool → World
-transferred f w r closed = cond (closed && drops r) (withLatch (effect f w r) false) (effect f w r)
+transferred f w r closed = cond (closed && latchDrops r) (withLatch (effect f w r) false) (effect f w r)
 
 -- "cut the supply": "The latch is off"
 unfoldable pub spanned : Figure → World → Span → World
-spanned f w (transfer t) = transferred f w (reading f (bytes (t .bits))) (t .closed)
+spanned f w (transfer t) = transferred f w (readTransfer f (wholeBytes (t .bits))) (t .closed)
 spanned f w cut = withLatch w false
 
 unfoldable pub inOrder : Figure → World → List Span → World

@@ -1,4 +1,4 @@
-pub mod Lines
+pub mod Wire
 pub mod Transfers
 pub mod Bytes
 pub mod History

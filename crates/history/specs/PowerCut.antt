@@ -1,4 +1,4 @@
--- What a power cut leaves (demand 3): the theorem. What it says is in Lines, Transfers, Bytes and History, which read the
+-- What a power cut leaves (demand 3): the theorem. What it says is in Wire, Transfers, Bytes and History, which read the
 -- list of events alone, and in the chip's Run, which runs its own definition over it. How it is proved is in Laws.
 -- Assumes nothing.
 use Prim.Native.Nat.{ℕ}
@@ -13,7 +13,7 @@ use Rattle.chip.specs.Power.{powerUp}
 use Rattle.chip.specs.Run.{Chip, begun, poweredUp, run}
 use Rattle.chip.specs.PowerLaws.{power-one, power-masked, power-fits, power-state}
 use Rattle.history.specs.History.{World, history}
-use Rattle.history.specs.Lines.{rest, refusal, afterAll}
+use Rattle.history.specs.Wire.{rest, refusal, afterAll}
 use Rattle.history.specs.Run.{worldOf}
 use Rattle.history.specs.Laws.Moments.{Reached, reached-from, world-told, run-append, cut-leaves, refusal-as}
 use Rattle.history.specs.Laws.Place.{outside}

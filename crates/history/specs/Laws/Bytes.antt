@@ -16,36 +16,36 @@ use Rattle.parts.specs.declared.figures.Figure.{Figure}
 use Rattle.stages.specs.Bits.{lowBit, shifted, takeBit}
 use Rattle.stages.specs.SoundLaws.{shifted-is}
 use Rattle.stages.specs.declared.bits.Taken.the-variants.{Part, Whole}
-use Rattle.history.specs.Lines.{Bit}
-use Rattle.history.specs.Bytes.{Byte, value, byte, eights, bytes, Reading, reading}
+use Rattle.history.specs.Wire.{Bit}
+use Rattle.history.specs.Bytes.{Byte, bitsValue, byte, eights, wholeBytes, Reading, readTransfer}
 
 -- one bit more doubles the value and adds the bit
 digit-more : (s : Bool) (p v d : ℕ) → cond s 1 0 * (p * 2) + (v * 2 + d) ≡ (cond s 1 0 * p + v) * 2 + d
 digit-more true p v d = omega arith
 digit-more false p v d = omega arith
 
-value-more : (bs : List Bit) (b : Bit) → value (bs ++ b ∷ []) ≡ value bs * 2 + cond (b .si) 1 0
-unfolding value
+value-more : (bs : List Bit) (b : Bit) → bitsValue (bs ++ b ∷ []) ≡ bitsValue bs * 2 + cond (b .si) 1 0
+unfolding bitsValue
 value-more [] b = omega arith
 value-more (c ∷ bs) b =
     rw (length-append bs (b ∷ []), add-one, pow-suc, value-more bs b)
-    (digit-more (c .si) (2 ^ length bs) (value bs) (cond (b .si) 1 0))
+    (digit-more (c .si) (2 ^ length bs) (bitsValue bs) (cond (b .si) 1 0))
 
 digit-lt : (s : Bool) (p v : ℕ) → v < p → cond s 1 0 * p + v < p * 2
 digit-lt true p v h = omega arith
 digit-lt false p v h = omega arith
 
-value-lt : (bs : List Bit) → value bs < 2 ^ length bs
-unfolding value
+value-lt : (bs : List Bit) → bitsValue bs < 2 ^ length bs
+unfolding bitsValue
 value-lt [] = omega arith
-value-lt (b ∷ bs) = rw pow-suc (digit-lt (b .si) (2 ^ length bs) (value bs) (value-lt bs))
+value-lt (b ∷ bs) = rw pow-suc (digit-lt (b .si) (2 ^ length bs) (bitsValue bs) (value-lt bs))
 
 -- the shift register after some bits: a 1 stands before them
 abbrev one : Bit
 one = record { si = true; wp = true }
 
 abbrev pub shiftOf : List Bit → ℕ
-shiftOf r = value (one ∷ r)
+shiftOf r = bitsValue (one ∷ r)
 
 shift-lt : (r : List Bit) (n : ℕ) → length r < n → shiftOf r < 2 ^ n
 shift-lt r n h = lt-of-lt-of-le (value-lt (one ∷ r)) (pow-mono h)
@@ -63,27 +63,32 @@ taken-part r b h =
     rw (value-taken r b (omega arith), lt-ltb (shiftOf (r ++ b ∷ [])) 256 (shift-lt (r ++ b ∷ []) 8 (rw length-append (omega arith))))
 
 -- a byte with a 1 before it
-ninth : (bs : List Bit) → length bs ≡ 8 → shiftOf bs ≡ 256 + value bs
-unfolding value
+ninth : (bs : List Bit) → length bs ≡ 8 → shiftOf bs ≡ 256 + bitsValue bs
+unfolding bitsValue
 ninth bs h = rw h
 
 full : (v : ℕ) → v < 256 → (256 + v) % 256 ≡ v
 full v h = omega arith
 
-pub value-whole : (r : List Bit) (b : Bit) → length r ≡ 7 → value (r ++ b ∷ []) < 256
+pub value-whole : (r : List Bit) (b : Bit) → length r ≡ 7 → bitsValue (r ++ b ∷ []) < 256
 value-whole r b h = rw (length-append, h) at (value-lt (r ++ b ∷ []))
 
-pub taken-whole : (r : List Bit) (b : Bit) → length r ≡ 7 → takeBit (shiftOf r) (b .si) ≡ Whole (value (r ++ b ∷ []))
+pub taken-whole : (r : List Bit) (b : Bit) → length r ≡ 7 → takeBit (shiftOf r) (b .si) ≡ Whole (bitsValue (r ++ b ∷ []))
 unfolding takeBit
 taken-whole r b h =
-    rw (value-taken r b (omega arith), ninth (r ++ b ∷ []) (rw (length-append, h)), le-ltb (256 + value (r ++ b ∷ [])) 256 (omega arith), full (value (r ++ b ∷ [])) (value-whole r b h))
+    rw (
+      value-taken r b (omega arith),
+      ninth (r ++ b ∷ []) (rw (length-append, h)),
+      le-ltb (256 + bitsValue (r ++ b ∷ [])) 256 (omega arith),
+      full (bitsValue (r ++ b ∷ [])) (value-whole r b h),
+    )
 
-bytes-short : (r : List Bit) → length r < 8 → bytes r ≡ []
-unfolding bytes eights
+bytes-short : (r : List Bit) → length r < 8 → wholeBytes r ≡ []
+unfolding wholeBytes eights
 bytes-short r h = rw (div-eq-of-lt h)
 
-bytes-whole : (r cs : List Bit) → length r ≡ 8 → bytes (r ++ cs) ≡ byte r ∷ bytes cs
-unfolding bytes eights
+bytes-whole : (r cs : List Bit) → length r ≡ 8 → wholeBytes (r ++ cs) ≡ byte r ∷ wholeBytes cs
+unfolding wholeBytes eights
 bytes-whole r cs h = rw (length-append r cs, h, eight-more (length cs), take-at r cs 8 h, drop-at r cs 8 h)
   where
     eight-more : (n : ℕ) → (8 + n) / 8 ≡ suc (n / 8)
@@ -92,13 +97,13 @@ bytes-whole r cs h = rw (length-append r cs, h, eight-more (length cs), take-at 
 -- how the bits so far are read, whatever bits follow: by their whole bytes, and the bits that are left
 pub record Cut (f : Figure) (bs : List Bit) (read : List Byte → Reading) (r : List Bit) : Type 0 where
   pub short : length r < 8
-  pub cut : (cs : List Bit) → reading f (bytes (bs ++ cs)) ≡ read (bytes (r ++ cs))
+  pub cut : (cs : List Bit) → readTransfer f (wholeBytes (bs ++ cs)) ≡ read (wholeBytes (r ++ cs))
 
 module _ (f : Figure) where
-  pub cut-none : Cut f [] (reading f) []
+  pub cut-none : Cut f [] (readTransfer f) []
   cut-none = record { short = omega arith; cut = λ cs. refl }
 
-  pub cut-bytes : {bs : List Bit} {read : List Byte → Reading} {r : List Bit} → Cut f bs read r → reading f (bytes bs) ≡ read []
+  pub cut-bytes : {bs : List Bit} {read : List Byte → Reading} {r : List Bit} → Cut f bs read r → readTransfer f (wholeBytes bs) ≡ read []
   cut-bytes {r = r} c = simp (append-nil, bytes-short r (c .short)) at (c .cut [])
 
   pub cut-part :
@@ -111,17 +116,17 @@ module _ (f : Figure) where
       }
 
 -- the eighth bit brings the level of /WP
-eighth : (r : List Bit) (b : Bit) → length r ≡ 7 → byte (r ++ b ∷ []) ≡ record { value = value (r ++ b ∷ []); wp = b .wp }
+eighth : (r : List Bit) (b : Bit) → length r ≡ 7 → byte (r ++ b ∷ []) ≡ record { value = bitsValue (r ++ b ∷ []); wp = b .wp }
 eighth r b h = rw (getD-at r b [] (record { si = false; wp = true }) 7 h)
 
 pub cut-whole :
     (f : Figure) {bs : List Bit} {read : List Byte → Reading} {r : List Bit} (b : Bit) → Cut f bs read r → length r ≡ 7
-    → Cut f (bs ++ b ∷ []) (λ more. read (record { value = value (r ++ b ∷ []); wp = b .wp } ∷ more)) []
+    → Cut f (bs ++ b ∷ []) (λ more. read (record { value = bitsValue (r ++ b ∷ []); wp = b .wp } ∷ more)) []
 cut-whole f {read = read} {r = r} b c h =
     record {
       short = omega arith;
       cut = λ cs. simp append-assoc (c .cut (b ∷ cs) ∙ ap read (first cs));
     }
   where
-    first : (cs : List Bit) → bytes (r ++ b ∷ cs) ≡ record { value = value (r ++ b ∷ []); wp = b .wp } ∷ bytes cs
+    first : (cs : List Bit) → wholeBytes (r ++ b ∷ cs) ≡ record { value = bitsValue (r ++ b ∷ []); wp = b .wp } ∷ wholeBytes cs
     first cs = simp (append-assoc, eighth r b h) at (bytes-whole (r ++ b ∷ []) cs (rw (length-append, h)))

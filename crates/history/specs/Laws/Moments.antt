@@ -23,10 +23,10 @@ use Rattle.stages.specs.declared.stage.Stage.the-variants.{Closed}
 use Rattle.lines.specs.declared.state.State.{State}
 use Rattle.chip.specs.declared.event.Answer.{Answer}
 use Rattle.chip.specs.declared.event.Stepped.{Stepped}
-use Rattle.history.specs.Lines.{Lines, rest, refusal, after, afterAll, act, acts, passes}
+use Rattle.history.specs.Wire.{Wire, rest, refusal, afterOne, afterAll, act, acts, passes}
 use Rattle.history.specs.History.{World, history}
 use Rattle.history.specs.Run.{worldOf}
-use Rattle.history.specs.Laws.Place.{Place, outside, worldAt, placed, base, from, from-now, from-next}
+use Rattle.history.specs.Laws.Place.{Place, outside, worldAt, placeAfter, base, from, from-now, from-next}
 use Rattle.history.specs.Laws.Select.{closed, select-world}
 use Rattle.history.specs.Laws.Step.{Agrees, off, on, asleep, offChip, Onward, follows, refuses}
 
@@ -39,18 +39,18 @@ module _ (xs : List ℕ) (s : State) (good : sound s ≡ true) (fits : length xs
   unfolding event checks
   event-unknown e = rw (good, eq-eqb _ _ fits, e)
 
-same : {A : Type 0} (t : Bool) (a : A) → cond t a a ≡ a
-same true a = refl
-same false a = refl
+either-way : {A : Type 0} (t : Bool) (a : A) → cond t a a ≡ a
+either-way true a = refl
+either-way false a = refl
 
-unknown-stays : (l : Lines) (code : ℕ) → leb 12 code ≡ true → after l code ≡ l
-unfolding after refusal
+unknown-stays : (l : Wire) (code : ℕ) → leb 12 code ≡ true → afterOne l code ≡ l
+unfolding afterOne refusal
 unknown-stays l code e = rw e
 
-unknown-passes : (l : Lines) (code : ℕ) → leb 12 code ≡ true → act l code ≡ passes
+unknown-passes : (l : Wire) (code : ℕ) → leb 12 code ≡ true → act l code ≡ passes
 unfolding act
 unknown-passes l code e =
-    rw (other 10 (omega arith), other 0 (omega arith), other 1 (omega arith), other 3 (omega arith)) (same (not (l .power)) passes)
+    rw (other 10 (omega arith), other 0 (omega arith), other 1 (omega arith), other 3 (omega arith)) (either-way (not (l .power)) passes)
   where
     large : 12 ≤ code
     large = leb-true 12 code e
@@ -59,31 +59,31 @@ unknown-passes l code e =
     other k h = ne-eqb code k (λ q. omega (arith, large))
 
 -- a moment of a run
-pub record Moment (part : ℕ) (l : Lines) (p : Place) (w : World) (c : Chip) : Type 0 where
+pub record Moment (part : ℕ) (l : Wire) (p : Place) (w : World) (c : Chip) : Type 0 where
   pub agrees : Agrees part l p w c
   pub good : sound (c .state) ≡ true
   pub fits : length (c .array) ≡ figureOf part .size
 
 -- the chip is the part's
 fits-own :
-    {part : ℕ} {l : Lines} {p : Place} {w : World} {c : Chip} → Agrees part l p w c → length (c .array) ≡ figureOf part .size
+    {part : ℕ} {l : Wire} {p : Place} {w : World} {c : Chip} → Agrees part l p w c → length (c .array) ≡ figureOf part .size
     → length (c .array) ≡ figureOf (c .state .part) .size
 fits-own (off kept array) h = h
 fits-own (on p w v sck si wp hold stage s) h = h
 
-steps-own : {part : ℕ} {l : Lines} {p : Place} {w : World} {c : Chip} → Agrees part l p w c → (code : ℕ)
+steps-own : {part : ℕ} {l : Wire} {p : Place} {w : World} {c : Chip} → Agrees part l p w c → (code : ℕ)
     → step (figureOf (c .state .part)) (c .array) (c .state) code ≡ step (figureOf part) (c .array) (c .state) code
 steps-own (off kept array) code = refl
 steps-own (on p w v sck si wp hold stage s) code = refl
 
 world-of :
-    {part : ℕ} {l : Lines} {p : Place} {w : World} {c : Chip} → Agrees part l p w c
+    {part : ℕ} {l : Wire} {p : Place} {w : World} {c : Chip} → Agrees part l p w c
     → worldOf c ≡ worldAt (figureOf part) w p
 unfolding worldAt
 world-of (off kept array) = refl
 world-of {part} (on p w v sck si wp hold stage s) = select-world (figureOf part) w s
 
-module _ (part : ℕ) (fair : Fair (figureOf part)) {l : Lines} {p : Place} {w : World} {c : Chip} (m : Moment part l p w c) where
+module _ (part : ℕ) (fair : Fair (figureOf part)) {l : Wire} {p : Place} {w : World} {c : Chip} (m : Moment part l p w c) where
   own : length (c .array) ≡ figureOf (c .state .part) .size
   own = fits-own (m .agrees) (m .fits)
 
@@ -99,7 +99,7 @@ module _ (part : ℕ) (fair : Fair (figureOf part)) {l : Lines} {p : Place} {w :
   next-stays code e = ap (answered c) (event-unknown (c .array) (c .state) (m .good) own code e)
 
   agrees-next : (code : ℕ) → Onward part l p w code (next c code)
-  unfolding placed base
+  unfolding placeAfter base
   agrees-next code = go (leb 12 code) refl
     where
       go : (t : Bool) → leb 12 code ≡ t → Onward part l p w code (next c code)
@@ -119,7 +119,7 @@ module _ (part : ℕ) (fair : Fair (figureOf part)) {l : Lines} {p : Place} {w :
 
   pub moment-next :
       (code : ℕ)
-      → Moment part (after l code) (placed p (act l code)) (base (figureOf part) w p (act l code)) (next c code)
+      → Moment part (afterOne l code) (placeAfter p (act l code)) (base (figureOf part) w p (act l code)) (next c code)
   moment-next code =
       record {
         agrees = agrees-next code;
@@ -128,14 +128,14 @@ module _ (part : ℕ) (fair : Fair (figureOf part)) {l : Lines} {p : Place} {w :
       }
 
 -- where a run leads
-pub record Reached (part : ℕ) (l : Lines) (p : Place) (w : World) (c : Chip) (codes : List ℕ) : Type 0 where
+pub record Reached (part : ℕ) (l : Wire) (p : Place) (w : World) (c : Chip) (codes : List ℕ) : Type 0 where
   pub place : Place
   pub before : World
   pub moment : Moment part (afterAll l codes) place before (run c codes)
   pub told : from (figureOf part) w p (acts l codes) ≡ worldAt (figureOf part) before place
 
 pub reached :
-    (part : ℕ) → Fair (figureOf part) → {l : Lines} {p : Place} {w : World} {c : Chip} → Moment part l p w c → (codes : List ℕ)
+    (part : ℕ) → Fair (figureOf part) → {l : Wire} {p : Place} {w : World} {c : Chip} → Moment part l p w c → (codes : List ℕ)
     → Reached part l p w c codes
 unfolding run acts afterAll
 reached part fair {l} {p} {w} {c} m [] =
@@ -146,7 +146,7 @@ reached part fair {l} {p} {w} {c} m (code ∷ codes) =
       place = r .place;
       before = r .before;
       moment = r .moment;
-      told = from-next (figureOf part) w p (act l code) (acts (after l code) codes) ∙ r .told;
+      told = from-next (figureOf part) w p (act l code) (acts (afterOne l code) codes) ∙ r .told;
     }
 
 -- from power-up on
@@ -173,13 +173,13 @@ run-append c [] more = refl
 run-append c (code ∷ codes) more = run-append (next c code) codes more
 
 -- the cut and the return of power
-cut-dark : {part : ℕ} {l : Lines} {p : Place} {w : World} {c : Chip} → Agrees part l p w c
+cut-dark : {part : ℕ} {l : Wire} {p : Place} {w : World} {c : Chip} → Agrees part l p w c
     → answered c (answerOf (step (figureOf part) (c .array) (c .state) 10)) ≡ offChip part (c .state .kept) (c .array)
 unfolding step live written
 cut-dark (off kept array) = refl
 cut-dark (on p w v sck si wp hold stage s) = refl
 
-pub cut-leaves : (part : ℕ) → Fair (figureOf part) → {l : Lines} {p : Place} {w : World} {c : Chip} → Moment part l p w c
+pub cut-leaves : (part : ℕ) → Fair (figureOf part) → {l : Wire} {p : Place} {w : World} {c : Chip} → Moment part l p w c
     → run c (10 ∷ 11 ∷ []) ≡ record { state = atRest part (c .state .kept) true; array = c .array }
 unfolding run step written
 cut-leaves part fair {c = c} m =

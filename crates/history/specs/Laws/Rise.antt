@@ -32,8 +32,8 @@ use Rattle.stages.specs.declared.stage.Stage.the-variants.{Upper, Lower, Over}
 use Rattle.stages.specs.declared.stage.End.the-variants.{Drops}
 use Rattle.stages.specs.declared.stage.What.the-variants.{Array, Status}
 use Rattle.chip.specs.Event.{written}
-use Rattle.history.specs.Bytes.{Byte, Reading, latches, idles, topBit, number, address, readAs, reading}
-use Rattle.history.specs.History.{World, withLatch, storeIf, stored, overlay, keepIf, keepFirst, effect, atLeastOne, drops}
+use Rattle.history.specs.Bytes.{Byte, Reading, latches, idles, topBit, number, address, readAs, readTransfer}
+use Rattle.history.specs.History.{World, withLatch, storeIf, overlaid, overlay, keepIf, keepFirst, effect, atLeastOne, latchDrops}
 use Rattle.history.specs.Laws.Addresses.{next-place, start-one, start-two}
 use Rattle.history.specs.Laws.Stage.{Ended, quiet, kept, ready, array, status, wrote, dataOf, Idle, Paged, Image, code, upper, lower, writing, keeping, over}
 
@@ -74,7 +74,7 @@ part-rise f w v sh more wp si t e (over now d s n) = rw (ended-rise f (seenIn v 
 module _ (f : Figure) (fair : Fair f) (w v : World) (sh : ℕ) (si : Bool)
     (b : Byte) (small : b .value < 256) (t : takeBit sh si ≡ Whole (b .value)) where
   idle-data : (purpose : Purpose) (at : ℕ) → Idle f (dataOf purpose at [])
-  unfolding effect overlay drops atLeastOne
+  unfolding effect overlay latchDrops atLeastOne
   idle-data ToRead at = record { world = λ w. refl; latch = refl }
   idle-data ToWrite at = record { world = λ w. refl; latch = refl }
 
@@ -107,11 +107,11 @@ module _ (f : Figure) (fair : Fair f) (w v : World) (sh : ℕ) (si : Bool)
   Led read r = Leads f w v fresh read r
 
   -- of any other command
-  ends : {stage : Stage} (r : Reading) → drops r ≡ false → Ended false stage → Image f fresh (λ bs. r) stage
+  ends : {stage : Stage} (r : Reading) → latchDrops r ≡ false → Ended false stage → Image f fresh (λ bs. r) stage
   ends r q n = over (λ w. effect f w r) false (record { world = λ w bs. refl; latch = λ bs. q }) n
 
   whole-op : v ≡ w → (c : Command) → Led (λ bs. readAs f (b .value) bs c) (begun f (seenIn v (b .wp) si) (b .value) c)
-  unfolding readAs address effect overlay keepFirst drops written afterCode
+  unfolding readAs address effect overlay keepFirst latchDrops written afterCode
   whole-op e Wren = record { image = ends (latches true) refl quiet; world = ap (λ (u : World). withLatch u true) e }
   whole-op e Wrdi = record { image = ends (latches false) refl quiet; world = ap (λ (u : World). withLatch u false) e }
   whole-op e Rdsr = record { image = ends idles refl (ready Status 0); world = e }
@@ -125,12 +125,12 @@ module _ (f : Figure) (fair : Fair f) (w v : World) (sh : ℕ) (si : Bool)
   whole-address :
       (purpose : Purpose) (page : ℕ) {read : List Byte → Reading} → v ≡ effect f w (read []) → Paged f purpose page read
       → Led (λ bs. read (b ∷ bs)) (select.quiet (seenIn v (b .wp) si) (afterAddress purpose page (b .value)))
-  unfolding afterAddress effect overlay drops written
+  unfolding afterAddress effect overlay latchDrops written
   whole-address ToRead page e l =
       record {
         image =
             over (λ w. w) false
-            (record { world = λ w bs. ap (effect f w) (l .follow b bs); latch = λ bs. ap drops (l .follow b bs) })
+            (record { world = λ w bs. ap (effect f w) (l .follow b bs); latch = λ bs. ap latchDrops (l .follow b bs) })
             (ready Array (page * 256 + b .value));
         world = e ∙ l .before .world w ∙ sym (ap (effect f w) (l .follow b []));
       }
@@ -138,7 +138,7 @@ module _ (f : Figure) (fair : Fair f) (w v : World) (sh : ℕ) (si : Bool)
       rw (l .place b small)
       (record {
         image =
-            writing NoByte (l .start b) 0 (λ w. w) (λ w bs. ap (effect f w) (l .follow b bs)) (λ bs. ap drops (l .follow b bs));
+            writing NoByte (l .start b) 0 (λ w. w) (λ w bs. ap (effect f w) (l .follow b bs)) (λ bs. ap latchDrops (l .follow b bs));
         world = e ∙ l .before .world w ∙ sym (ap (effect f w) (l .follow b []));
       })
 
@@ -167,7 +167,7 @@ module _ (f : Figure) (fair : Fair f) (w v : World) (sh : ℕ) (si : Bool)
   pub whole-rise :
       {read : List Byte → Reading} {stage : Stage} → v ≡ effect f w (read []) → Image f sh read stage
       → Led (λ bs. read (b ∷ bs)) (rise f (seenIn v (b .wp) si) stage)
-  unfolding rise reading effect overlay keepFirst drops atLeastOne codeRise opened upperRise lowerRise writeRise keepRise written
+  unfolding rise readTransfer effect overlay keepFirst latchDrops atLeastOne codeRise opened upperRise lowerRise writeRise keepRise written
   whole-rise e code = rw t (whole-op e (command (f .ops) (b .value)))
   whole-rise e (upper purpose i l) =
       rw t
@@ -180,10 +180,10 @@ module _ (f : Figure) (fair : Fair f) (w v : World) (sh : ℕ) (si : Bool)
       rw (t, next-place f fair (start + k), add-assoc start k 1)
       (record {
         image =
-            writing Bytes start (k + 1) (λ w. stored f (now w) at b) (λ w bs. p w (b ∷ bs))
+            writing Bytes start (k + 1) (λ w. overlaid f (now w) at b) (λ w bs. p w (b ∷ bs))
             (λ bs. d (b ∷ bs) ∙ wrote-more came bs);
         world =
-            note-stored at (mayStore f (v .latch) (v .kept) (b .wp) at) ∙ ap (λ (u : World). stored f u at b) (e ∙ p w [])
+            note-stored at (mayStore f (v .latch) (v .kept) (b .wp) at) ∙ ap (λ (u : World). overlaid f u at b) (e ∙ p w [])
             ∙ sym (p w (b ∷ []));
       })
     where
@@ -193,7 +193,7 @@ module _ (f : Figure) (fair : Fair f) (w v : World) (sh : ℕ) (si : Bool)
       rw t
       (note-kept read (mayKeep f (v .latch) (v .kept) (b .wp))
       (over (λ w. keepFirst f w (b ∷ [])) true
-      (record { world = λ w bs. ap (effect f w) (p (b ∷ bs)); latch = λ bs. ap drops (p (b ∷ bs)) }) kept)
+      (record { world = λ w bs. ap (effect f w) (p (b ∷ bs)); latch = λ bs. ap latchDrops (p (b ∷ bs)) }) kept)
       (ap (λ (u : World). keepFirst f u (b ∷ [])) (e ∙ ap (effect f w) (p [])) ∙ sym (ap (effect f w) (p (b ∷ [])))))
   whole-rise e (over now d s n) =
       rw (ended-rise f (seenIn v (b .wp) si) n)

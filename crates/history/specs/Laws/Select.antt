@@ -17,9 +17,9 @@ use Rattle.select.specs.Rise.{rise}
 use Rattle.select.specs.declared.rise.Risen.{Risen}
 use Rattle.stages.specs.declared.stage.Stage.{Stage}
 use Rattle.stages.specs.declared.stage.Stage.the-variants.{Closed, Code}
-use Rattle.history.specs.Lines.{Bit, closes}
-use Rattle.history.specs.Bytes.{Byte, Reading, value, reading}
-use Rattle.history.specs.History.{World, withLatch, effect, drops}
+use Rattle.history.specs.Wire.{Bit, closes}
+use Rattle.history.specs.Bytes.{Byte, Reading, bitsValue, readTransfer}
+use Rattle.history.specs.History.{World, withLatch, effect, latchDrops}
 use Rattle.history.specs.Laws.Bytes.{Cut, cut-none, cut-bytes, cut-part, cut-whole, shiftOf, taken-part, taken-whole, value-whole}
 use Rattle.history.specs.Laws.Stage.{Image, code, image-open, image-drops, image-fall}
 use Rattle.history.specs.Laws.Rise.{seenIn, risenWorld, part-rise, whole-rise}
@@ -51,8 +51,8 @@ module _ (f : Figure) (w : World) where
 
   -- a fresh select
   pub select-fresh : Selected f w (inside []) w (Code fresh)
-  unfolding effect reading value
-  select-fresh = going (reading f) [] (cut-none f) refl code
+  unfolding effect readTransfer bitsValue
+  select-fresh = going (readTransfer f) [] (cut-none f) refl code
 
 module _ (f : Figure) (fair : Fair f) (w : World) where
   -- a seen rise of SCK: the bit joins those of the byte that is left, or makes it whole
@@ -60,7 +60,7 @@ module _ (f : Figure) (fair : Fair f) (w : World) where
       (b : Bit) {bs : List Bit} {v : World} {stage : Stage} → Selected f w (inside bs) v stage
       → Selected f w (inside (bs ++ b ∷ [])) (risenWorld v (rise f (seenIn v (b .wp) (b .si)) stage))
       (rise f (seenIn v (b .wp) (b .si)) stage .stage)
-  unfolding value
+  unfolding bitsValue
   select-rise b {bs} {v} {stage} (going read r c e i) = go (leb 7 (length r)) refl
     where
       risen : Risen
@@ -70,7 +70,7 @@ module _ (f : Figure) (fair : Fair f) (w : World) where
       seventh l h = omega arith
 
       byte : Byte
-      byte = record { value = value (r ++ b ∷ []); wp = b .wp }
+      byte = record { value = bitsValue (r ++ b ∷ []); wp = b .wp }
 
       go : (t : Bool) → leb 7 (length r) ≡ t → Selected f w (inside (bs ++ b ∷ [])) (risenWorld v risen) (risen .stage)
       go true q =
@@ -88,4 +88,4 @@ module _ (f : Figure) (fair : Fair f) (w : World) where
       → cond (close.drops stage) (withLatch v false) v ≡ base f w (inside bs) closes
   unfolding base
   select-close (going read r c e i) =
-      rw (image-drops f i, cut-bytes f c) (ap (λ (u : World). cond (drops (read [])) (withLatch u false) u) e)
+      rw (image-drops f i, cut-bytes f c) (ap (λ (u : World). cond (latchDrops (read [])) (withLatch u false) u) e)

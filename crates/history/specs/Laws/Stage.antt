@@ -19,8 +19,8 @@ use Rattle.stages.specs.declared.stage.What.{What}
 use Rattle.stages.specs.declared.stage.What.the-variants.{Array, Status}
 use Rattle.stages.specs.declared.stage.Stage.{Stage}
 use Rattle.stages.specs.declared.stage.Stage.the-variants.{Code, Upper, Lower, Ready, ArrayOut, StatusOut, Writing, Keeping, Over}
-use Rattle.history.specs.Bytes.{Byte, Reading, stores, idles, keeps, reading}
-use Rattle.history.specs.History.{World, overlay, effect, atLeastOne, drops}
+use Rattle.history.specs.Bytes.{Byte, Reading, stores, idles, keeps, readTransfer}
+use Rattle.history.specs.History.{World, overlay, effect, atLeastOne, latchDrops}
 
 -- the stages at which no bit counts any more, by whether the close drops the latch: a READ or RDSR only shows
 pub data Ended : Bool → Stage → Type 0 where
@@ -44,7 +44,7 @@ module _ (f : Figure) where
   -- nothing comes of a reading
   pub record Idle (r : Reading) : Type 0 where
     pub world : (w : World) → effect f w r ≡ w
-    pub latch : drops r ≡ false
+    pub latch : latchDrops r ≡ false
 
   -- the last address byte is next, with its page known: nothing comes of the transfer before it, and data follow it
   pub record Paged (purpose : Purpose) (page : ℕ) (read : List Byte → Reading) : Type 0 where
@@ -56,11 +56,11 @@ module _ (f : Figure) where
   -- whatever follows, the world stays as it is now, and the close drops the latch or not
   pub record Settled (read : List Byte → Reading) (now : World → World) (drop : Bool) : Type 0 where
     pub world : (w : World) (bs : List Byte) → effect f w (read bs) ≡ now w
-    pub latch : (bs : List Byte) → drops (read bs) ≡ drop
+    pub latch : (bs : List Byte) → latchDrops (read bs) ≡ drop
 
   -- what a stage is to the history, with `sh` for the bits of the next byte
   pub data Image (sh : ℕ) : (List Byte → Reading) → Stage → Type 0 where
-    code : Image sh (reading f) (Code sh)
+    code : Image sh (readTransfer f) (Code sh)
     upper :
         {read : List Byte → Reading} (purpose : Purpose) → Idle (read [])
         → ((u : Byte) → Paged purpose (upperPage f (u .value)) (λ bs. read (u ∷ bs))) → Image sh read (Upper purpose sh)
@@ -68,7 +68,7 @@ module _ (f : Figure) where
     writing :
         {read : List Byte → Reading} (came : Came) (start k : ℕ) (now : World → World)
         → ((w : World) (bs : List Byte) → effect f w (read bs) ≡ overlay f start k (now w) bs)
-        → ((bs : List Byte) → drops (read bs) ≡ wrote came bs) → Image sh read (Writing came sh ((start + k) % f .size))
+        → ((bs : List Byte) → latchDrops (read bs) ≡ wrote came bs) → Image sh read (Writing came sh ((start + k) % f .size))
     keeping : {read : List Byte → Reading} → ((bs : List Byte) → read bs ≡ keeps bs) → Image sh read (Keeping sh)
     over :
         {read : List Byte → Reading} {stage : Stage} (now : World → World) (drop : Bool)
@@ -98,14 +98,14 @@ module _ (f : Figure) where
   ended-drops (array level bit at) = refl
   ended-drops (status level bit) = refl
 
-  pub image-drops : {sh : ℕ} {read : List Byte → Reading} {stage : Stage} → Image sh read stage → close.drops stage ≡ drops (read [])
-  unfolding reading drops atLeastOne
+  pub image-drops : {sh : ℕ} {read : List Byte → Reading} {stage : Stage} → Image sh read stage → close.drops stage ≡ latchDrops (read [])
+  unfolding readTransfer latchDrops atLeastOne
   image-drops code = refl
   image-drops (upper purpose i l) = sym (i .latch)
   image-drops (lower purpose page l) = sym (l .before .latch)
   image-drops (writing NoByte start k now p d) = sym (d [])
   image-drops (writing Bytes start k now p d) = sym (d [])
-  image-drops (keeping p) = sym (ap drops (p []))
+  image-drops (keeping p) = sym (ap latchDrops (p []))
   image-drops (over now d s e) = ended-drops e ∙ sym (s .latch [])
 
   -- a fall of SCK moves only what is shown

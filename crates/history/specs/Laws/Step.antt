@@ -21,9 +21,9 @@ use Rattle.chip.specs.Event.{accepted, answerOf, csStayed, live, step, written}
 use Rattle.chip.specs.Run.{Chip, answered}
 use Rattle.lines.specs.declared.hold.Hold.{Hold}
 use Rattle.lines.specs.declared.hold.Hold.the-variants.{High, LowCsLow, LowCsHigh}
-use Rattle.history.specs.Lines.{Lines, rest, put, refusal, after, act}
+use Rattle.history.specs.Wire.{Wire, rest, put, refusal, afterOne, act}
 use Rattle.history.specs.History.{World}
-use Rattle.history.specs.Laws.Place.{Place, outside, inside, isOutside, worldAt, placed, base}
+use Rattle.history.specs.Laws.Place.{Place, outside, inside, isOutside, worldAt, placeAfter, base}
 use Rattle.history.specs.Laws.Select.{Selected, closed, select-open, select-world, select-fall, select-fresh, select-rise, select-close}
 
 -- the level of /CS, by /HOLD and whether no select is open
@@ -32,8 +32,8 @@ csOf High seen = seen
 csOf LowCsLow seen = false
 csOf LowCsHigh seen = true
 
-abbrev pub linesOf : Bool → Bool → Bool → Hold → Bool → Lines
-linesOf sck si wp hold seen =
+abbrev pub wireOf : Bool → Bool → Bool → Hold → Bool → Wire
+wireOf sck si wp hold seen =
     record { power = true; cs = csOf hold seen; sck = sck; si = si; hold = holdHigh hold; wp = wp; seen = seen }
 
 abbrev pub chipOf : ℕ → World → Bool → Bool → Bool → Hold → Stage → Chip
@@ -62,18 +62,18 @@ abbrev pub offChip : ℕ → ℕ → List ℕ → Chip
 offChip part kept array = record { state = atRest part kept false; array = array }
 
 -- a chip agrees with the history: the lines, and the select with the open transfer
-pub data Agrees (part : ℕ) : Lines → Place → World → Chip → Type 0 where
+pub data Agrees (part : ℕ) : Wire → Place → World → Chip → Type 0 where
   off :
       (kept : ℕ) (array : List ℕ)
       → Agrees part (rest false) outside (asleep kept array) (offChip part kept array)
   on :
       (p : Place) (w v : World) (sck si wp : Bool) (hold : Hold) (stage : Stage) → Selected (figureOf part) w p v stage
-      → Agrees part (linesOf sck si wp hold (isOutside p)) p w (chipOf part v sck si wp hold stage)
+      → Agrees part (wireOf sck si wp hold (isOutside p)) p w (chipOf part v sck si wp hold stage)
 
 -- this chip agrees after an event
-abbrev pub Onward : ℕ → Lines → Place → World → ℕ → Chip → Type 0
+abbrev pub Onward : ℕ → Wire → Place → World → ℕ → Chip → Type 0
 Onward part l p w code c =
-    Agrees part (after l code) (placed p (act l code)) (base (figureOf part) w p (act l code)) c
+    Agrees part (afterOne l code) (placeAfter p (act l code)) (base (figureOf part) w p (act l code)) c
 
 -- what holds of each of the twelve codes holds of every code under twelve
 abbrev Each : (ℕ → Type 0) → ℕ → ℕ → Type 0
@@ -97,7 +97,7 @@ each P (suc n) k code ps l h = go (eqb k code) refl (λ m. each P n (suc k) code
 
 module _ (part : ℕ) (fair : Fair (figureOf part)) where
   -- the step leads on
-  abbrev Follows : Lines → Place → World → Chip → ℕ → Type 0
+  abbrev Follows : Wire → Place → World → Chip → ℕ → Type 0
   Follows l p w c code = Onward part l p w code (answered c (answerOf (step (figureOf part) (c .array) (c .state) code)))
 
   module _ (w : World) (si wp : Bool) where
@@ -105,10 +105,10 @@ module _ (part : ℕ) (fair : Fair (figureOf part)) where
     abbrev After : ℕ → Type 0
     After code =
         (sck : Bool) (hold : Hold) (p : Place) (v : World) (stage : Stage) → Selected (figureOf part) w p v stage
-        → Follows (linesOf sck si wp hold (isOutside p)) p w (chipOf part v sck si wp hold stage) code
+        → Follows (wireOf sck si wp hold (isOutside p)) p w (chipOf part v sck si wp hold stage) code
 
     cs-low : After 0
-    unfolding after refusal put act placed base worldAt step live csFall written
+    unfolding afterOne refusal put act placeAfter base worldAt step live csFall written
     cs-low sck High outside _ _ closed = on (inside []) w w sck si wp High _ (select-fresh (figureOf part) w)
     cs-low sck High (inside bs) v stage s =
         rw (select-open (figureOf part) w s) (on (inside bs) w v sck si wp High stage s)
@@ -121,7 +121,7 @@ module _ (part : ℕ) (fair : Fair (figureOf part)) where
 
     closing :
         (sck latch d : Bool) (kept : ℕ) (array : List ℕ)
-        → Agrees part (linesOf sck si wp High true) outside
+        → Agrees part (wireOf sck si wp High true) outside
         (cond d (asleep kept array) (record { latch = latch; kept = kept; array = array }))
         (answered (shut sck latch kept array)
         (answerOf (accepted (cond (latch && d) (record { state = shut sck false kept array .state; note = Latch false }) (silent (shut sck latch kept array .state))))))
@@ -132,7 +132,7 @@ module _ (part : ℕ) (fair : Fair (figureOf part)) where
     closing sck false false kept array = on outside _ _ sck si wp High Closed closed
 
     cs-high : After 1
-    unfolding after refusal put act placed base step live csRise written
+    unfolding afterOne refusal put act placeAfter base step live csRise written
     cs-high sck High outside _ _ closed = on outside w w sck si wp High Closed closed
     cs-high sck High (inside bs) v stage s =
         rw (select-open (figureOf part) w s, ← select-close (figureOf part) fair w s)
@@ -141,7 +141,7 @@ module _ (part : ℕ) (fair : Fair (figureOf part)) where
     cs-high sck LowCsHigh p v stage s = on p w v sck si wp LowCsHigh stage s
 
     sck-low : After 2
-    unfolding after refusal put act placed base step live sckFall written
+    unfolding afterOne refusal put act placeAfter base step live sckFall written
     sck-low true High p v stage s =
         on p w v false si wp High _ (select-fall (figureOf part) w (v .array) (statusByte (figureOf part) (v .kept) (v .latch)) s)
     sck-low true LowCsLow p v stage s = on p w v false si wp LowCsLow stage s
@@ -149,7 +149,7 @@ module _ (part : ℕ) (fair : Fair (figureOf part)) where
     sck-low false hold p v stage s = on p w v false si wp hold stage s
 
     sck-high : After 3
-    unfolding after refusal put act placed base step live sckRise rise written
+    unfolding afterOne refusal put act placeAfter base step live sckRise rise written
     sck-high false High outside _ _ closed = on outside w w true si wp High Closed closed
     sck-high false High (inside bs) v stage s =
         on _ w _ true si wp High _ (select-rise (figureOf part) fair w (record { si = si; wp = wp }) s)
@@ -158,15 +158,15 @@ module _ (part : ℕ) (fair : Fair (figureOf part)) where
     sck-high true hold p v stage s = on p w v true si wp hold stage s
 
     si-low : After 4
-    unfolding after refusal put act placed base step live written
+    unfolding afterOne refusal put act placeAfter base step live written
     si-low sck hold p v stage s = on p w v sck false wp hold stage s
 
     si-high : After 5
-    unfolding after refusal put act placed base step live written
+    unfolding afterOne refusal put act placeAfter base step live written
     si-high sck hold p v stage s = on p w v sck true wp hold stage s
 
     hold-low : After 6
-    unfolding after refusal put act placed base step live holdFall written
+    unfolding afterOne refusal put act placeAfter base step live holdFall written
     hold-low true High p v stage s = on p w v true si wp High stage s
     hold-low false High outside _ _ closed = on outside w w false si wp LowCsHigh Closed closed
     hold-low false High (inside bs) v stage s =
@@ -175,7 +175,7 @@ module _ (part : ℕ) (fair : Fair (figureOf part)) where
     hold-low sck LowCsHigh p v stage s = on p w v sck si wp LowCsHigh stage s
 
     hold-high : After 7
-    unfolding after refusal put act placed base step live csStayed holdRise written
+    unfolding afterOne refusal put act placeAfter base step live csStayed holdRise written
     hold-high sck High p v stage s = on p w v sck si wp High stage s
     hold-high true LowCsLow p v stage s = on p w v true si wp LowCsLow stage s
     hold-high true LowCsHigh p v stage s = on p w v true si wp LowCsHigh stage s
@@ -187,19 +187,19 @@ module _ (part : ℕ) (fair : Fair (figureOf part)) where
         rw (select-open (figureOf part) w s) (on (inside bs) w v false si wp LowCsHigh stage s)
 
     wp-low : After 8
-    unfolding after refusal put act placed base step live written
+    unfolding afterOne refusal put act placeAfter base step live written
     wp-low sck hold p v stage s = on p w v sck si false hold stage s
 
     wp-high : After 9
-    unfolding after refusal put act placed base step live written
+    unfolding afterOne refusal put act placeAfter base step live written
     wp-high sck hold p v stage s = on p w v sck si true hold stage s
 
     vdd-low : After 10
-    unfolding after refusal put act placed base step live written
+    unfolding afterOne refusal put act placeAfter base step live written
     vdd-low sck hold p v stage s = rw (← select-world (figureOf part) w s) (off (v .kept) (v .array))
 
     vdd-high : After 11
-    unfolding after refusal put act placed base step live written
+    unfolding afterOne refusal put act placeAfter base step live written
     vdd-high sck hold p v stage s = on p w v sck si wp hold stage s
 
     any-pin : (code : ℕ) → leb 12 code ≡ false → After code
@@ -213,7 +213,7 @@ module _ (part : ℕ) (fair : Fair (figureOf part)) where
   darkness :
       (kept : ℕ) (array : List ℕ) (code : ℕ) → leb 12 code ≡ false
       → Follows (rest false) outside (asleep kept array) (offChip part kept array) code
-  unfolding after refusal act placed base step written
+  unfolding afterOne refusal act placeAfter base step written
   darkness kept array code h = go (eqb code 11) refl
     where
       go : (t : Bool) → eqb code 11 ≡ t → Follows (rest false) outside (asleep kept array) (offChip part kept array) code
@@ -221,19 +221,19 @@ module _ (part : ℕ) (fair : Fair (figureOf part)) where
       go false e = rw (h, e) (off kept array)
 
   pub follows :
-      {l : Lines} {p : Place} {w : World} {c : Chip} (code : ℕ) → leb 12 code ≡ false → Agrees part l p w c
+      {l : Wire} {p : Place} {w : World} {c : Chip} (code : ℕ) → leb 12 code ≡ false → Agrees part l p w c
       → Follows l p w c code
   follows code h (off kept array) = darkness kept array code h
   follows code h (on p w v sck si wp hold stage s) = any-pin w si wp code h sck hold p v stage s
 
 -- The chip refuses what the lines say is refused, by the same number: with power on only a move of /HOLD.
 module _ (part : ℕ) where
-  abbrev Refuses : Lines → Chip → ℕ → Type 0
+  abbrev Refuses : Wire → Chip → ℕ → Type 0
   Refuses l c code = step (figureOf part) (c .array) (c .state) code .refusal ≡ refusal l code
 
   module _ (p : Place) (v : World) (si wp : Bool) (stage : Stage) where
     abbrev Alike : Bool → Hold → ℕ → Type 0
-    Alike sck hold code = Refuses (linesOf sck si wp hold (isOutside p)) (chipOf part v sck si wp hold stage) code
+    Alike sck hold code = Refuses (wireOf sck si wp hold (isOutside p)) (chipOf part v sck si wp hold stage) code
 
     fall-alike : (sck : Bool) (hold : Hold) → Alike sck hold 6
     unfolding refusal step live
@@ -254,7 +254,7 @@ module _ (part : ℕ) where
   rise-alike {p = inside bs} {w = w} si wp false LowCsLow s = rw (select-open (figureOf part) w s)
   rise-alike {p = inside bs} {w = w} si wp false LowCsHigh s = rw (select-open (figureOf part) w s)
 
-  pub refuses : {l : Lines} {p : Place} {w : World} {c : Chip} (code : ℕ) → leb 12 code ≡ false → Agrees part l p w c → Refuses l c code
+  pub refuses : {l : Wire} {p : Place} {w : World} {c : Chip} (code : ℕ) → leb 12 code ≡ false → Agrees part l p w c → Refuses l c code
   unfolding refusal step live
   refuses code h (off kept array) = rw h
   refuses code h (on p w v sck si wp hold stage s) =

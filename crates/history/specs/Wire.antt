@@ -6,7 +6,7 @@ use mathlib.Core.List.{List, [], _∷_}
 use lib.Dec.{eqb, leb}
 
 -- the levels of the lines, and of /CS as it was last seen: low exactly where a select is open
-pub record Lines : Type 0 where
+pub record Wire : Type 0 where
   pub power : Bool
   pub cs : Bool
   pub sck : Bool
@@ -16,7 +16,7 @@ pub record Lines : Type 0 where
   pub seen : Bool
 
 -- "At power-up (H): /CS, /HOLD and /WP high, SCK and SI low". With power off the lines have this form too.
-abbrev pub rest : Bool → Lines
+abbrev pub rest : Bool → Wire
 rest power = record { power = power; cs = true; sck = false; si = false; hold = true; wp = true; seen = true }
 
 -- "An event sets one pin to one level: its code is twice the pin number plus the level. Pins: 0 /CS, 1 SCK, 2 SI, 3 /HOLD,
@@ -26,7 +26,7 @@ level code pin before = cond (eqb (code / 2) pin) (eqb (code % 2) 1) before
 
 -- "While /HOLD is low, moves of SCK and /CS are not seen, only their levels kept": what was seen of /CS is then "the level
 -- it had when /HOLD fell".
-unfoldable pub put : Lines → ℕ → Lines
+unfoldable pub put : Wire → ℕ → Wire
 put l code =
     record {
       power = l .power;
@@ -39,39 +39,39 @@ put l code =
     }
 
 -- "/HOLD may move only with SCK low, select open or not. It may rise only with /CS at the level it had when /HOLD fell (H)."
-abbrev pub holdFalls : Lines → ℕ → Bool
+abbrev pub holdFalls : Wire → ℕ → Bool
 holdFalls l code = eqb code 6 && l .hold
 
-abbrev pub holdRises : Lines → ℕ → Bool
+abbrev pub holdRises : Wire → ℕ → Bool
 holdRises l code = eqb code 7 && not (l .hold)
 
-abbrev pub csMoved : Lines → Bool
+abbrev pub csMoved : Wire → Bool
 csMoved l = cond (l .seen) (not (l .cs)) (l .cs)
 
 -- 5 "event code 12 or more", 6 "power on, /HOLD would move with SCK high", 7 "power on, /HOLD would rise with /CS moved"; else 0
-unfoldable pub refusal : Lines → ℕ → ℕ
+unfoldable pub refusal : Wire → ℕ → ℕ
 refusal l code =
     cond (leb 12 code) 5
     (cond (l .power && (holdFalls l code || holdRises l code) && l .sck) 6
     (cond (l .power && holdRises l code && csMoved l) 7
     0))
 
-abbrev pub refused : Lines → ℕ → Bool
-refused l code = not (eqb (refusal l code) 0)
+abbrev pub isRefused : Wire → ℕ → Bool
+isRefused l code = not (eqb (refusal l code) 0)
 
 -- "refused events count as never sent". "With power off, each event but 11 is accepted and has no effect." Event 10 with
 -- power on gives the off state, "all else is as at power-up"; "Event 11 then gives the power-up state".
-unfoldable pub after : Lines → ℕ → Lines
-after l code =
-    cond (refused l code) l
+unfoldable pub afterOne : Wire → ℕ → Wire
+afterOne l code =
+    cond (isRefused l code) l
     (cond (l .power)
     (cond (eqb code 10) (rest false) (put l code))
     (cond (eqb code 11) (rest true) l))
 
 -- the lines after a list of events
-unfoldable pub afterAll : Lines → List ℕ → Lines
+unfoldable pub afterAll : Wire → List ℕ → Wire
 afterAll l [] = l
-afterAll l (code ∷ codes) = afterAll (after l code) codes
+afterAll l (code ∷ codes) = afterAll (afterOne l code) codes
 
 -- a bit: SI as it is taken, with the level of /WP then
 pub record Bit : Type 0 where
@@ -88,7 +88,7 @@ pub data Act : Type 0 where
 
 -- "So 0 lowers /CS, 3 raises SCK, 10 cuts power." "A seen fall of /CS opens a select, a seen rise closes it". "Each seen rise
 --  of SCK in an open select takes SI". "Setting a pin to the level it has is accepted and has no effect."
-unfoldable pub act : Lines → ℕ → Act
+unfoldable pub act : Wire → ℕ → Act
 act l code =
     cond (not (l .power)) passes
     (cond (eqb code 10) cuts
@@ -98,6 +98,6 @@ act l code =
     passes))))
 
 -- the acts of a list of events, in order
-unfoldable pub acts : Lines → List ℕ → List Act
+unfoldable pub acts : Wire → List ℕ → List Act
 acts l [] = []
-acts l (code ∷ codes) = act l code ∷ acts (after l code) codes
+acts l (code ∷ codes) = act l code ∷ acts (afterOne l code) codes
