@@ -22,7 +22,6 @@ use Rattle.lines.specs.declared.hold.Hold.the-variants.{High}
 use Rattle.stages.specs.declared.stage.Stage.the-variants.{Closed}
 use Rattle.lines.specs.declared.state.State.{State}
 use Rattle.chip.specs.declared.event.Answer.{Answer}
-use Rattle.chip.specs.declared.event.Stepped.{Stepped}
 use Rattle.history.specs.Wire.{Wire, rest, refusal, afterOne, afterAll, act, acts, passes}
 use Rattle.history.specs.History.{World, history}
 use Rattle.history.specs.Run.{worldOf}
@@ -65,16 +64,9 @@ pub record Moment (part : ℕ) (l : Wire) (p : Place) (w : World) (c : Chip) : T
   pub fits : length (c .array) ≡ figureOf part .size
 
 -- the chip is the part's
-fits-own :
-    {part : ℕ} {l : Wire} {p : Place} {w : World} {c : Chip} → Agrees part l p w c → length (c .array) ≡ figureOf part .size
-    → length (c .array) ≡ figureOf (c .state .part) .size
-fits-own (off kept array) h = h
-fits-own (on p w v sck si wp hold stage s) h = h
-
-steps-own : {part : ℕ} {l : Wire} {p : Place} {w : World} {c : Chip} → Agrees part l p w c → (code : ℕ)
-    → step (figureOf (c .state .part)) (c .array) (c .state) code ≡ step (figureOf part) (c .array) (c .state) code
-steps-own (off kept array) code = refl
-steps-own (on p w v sck si wp hold stage s) code = refl
+own-part : {part : ℕ} {l : Wire} {p : Place} {w : World} {c : Chip} → Agrees part l p w c → c .state .part ≡ part
+own-part (off kept array) = refl
+own-part (on p w v sck si wp hold stage s) = refl
 
 world-of :
     {part : ℕ} {l : Wire} {p : Place} {w : World} {c : Chip} → Agrees part l p w c
@@ -85,14 +77,18 @@ world-of {part} (on p w v sck si wp hold stage s) = select-world (figureOf part)
 
 module _ (part : ℕ) (fair : Fair (figureOf part)) {l : Wire} {p : Place} {w : World} {c : Chip} (m : Moment part l p w c) where
   own : length (c .array) ≡ figureOf (c .state .part) .size
-  own = fits-own (m .agrees) (m .fits)
+  own = rw (own-part (m .agrees)) (m .fits)
+
+  event-own : (code : ℕ) → leb 12 code ≡ false → event (c .array) (c .state) code ≡ answerOf (step (figureOf part) (c .array) (c .state) code)
+  event-own code e =
+      event-step (c .array) (c .state) (m .good) own code e
+      ∙ ap (λ (k : ℕ). answerOf (step (figureOf k) (c .array) (c .state) code)) (own-part (m .agrees))
 
   pub next-steps :
       (code : ℕ) → leb 12 code ≡ false
       → next c code ≡ answered c (answerOf (step (figureOf part) (c .array) (c .state) code))
   unfolding next
-  next-steps code e =
-      ap (answered c) (event-step (c .array) (c .state) (m .good) own code e ∙ ap answerOf (steps-own (m .agrees) code))
+  next-steps code e = ap (answered c) (event-own code e)
 
   next-stays : (code : ℕ) → leb 12 code ≡ true → next c code ≡ c
   unfolding next written
@@ -112,10 +108,7 @@ module _ (part : ℕ) (fair : Fair (figureOf part)) {l : Wire} {p : Place} {w : 
     where
       go : (t : Bool) → leb 12 code ≡ t → event (c .array) (c .state) code .refusal ≡ refusal l code
       go true e = rw (event-unknown (c .array) (c .state) (m .good) own code e, e)
-      go false e =
-          ap (λ (a : Answer). a .refusal) (event-step (c .array) (c .state) (m .good) own code e)
-          ∙ ap (λ (t : Stepped). t .refusal) (steps-own (m .agrees) code)
-          ∙ refuses part code e (m .agrees)
+      go false e = ap (λ (a : Answer). a .refusal) (event-own code e) ∙ refuses part code e (m .agrees)
 
   pub moment-next :
       (code : ℕ)

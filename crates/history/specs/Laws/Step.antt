@@ -157,14 +157,6 @@ module _ (part : ℕ) (fair : Fair (figureOf part)) where
     sck-high false LowCsHigh p v stage s = on p w v true si wp LowCsHigh stage s
     sck-high true hold p v stage s = on p w v true si wp hold stage s
 
-    si-low : After 4
-    unfolding afterOne refusal put act placeAfter base step live written
-    si-low sck hold p v stage s = on p w v sck false wp hold stage s
-
-    si-high : After 5
-    unfolding afterOne refusal put act placeAfter base step live written
-    si-high sck hold p v stage s = on p w v sck true wp hold stage s
-
     hold-low : After 6
     unfolding afterOne refusal put act placeAfter base step live holdFall written
     hold-low true High p v stage s = on p w v true si wp High stage s
@@ -186,27 +178,19 @@ module _ (part : ℕ) (fair : Fair (figureOf part)) where
     hold-high false LowCsHigh (inside bs) v stage s =
         rw (select-open (figureOf part) w s) (on (inside bs) w v false si wp LowCsHigh stage s)
 
-    wp-low : After 8
-    unfolding afterOne refusal put act placeAfter base step live written
-    wp-low sck hold p v stage s = on p w v sck si false hold stage s
-
-    wp-high : After 9
-    unfolding afterOne refusal put act placeAfter base step live written
-    wp-high sck hold p v stage s = on p w v sck si true hold stage s
-
-    vdd-low : After 10
-    unfolding afterOne refusal put act placeAfter base step live written
-    vdd-low sck hold p v stage s = rw (← select-world (figureOf part) w s) (off (v .kept) (v .array))
-
-    vdd-high : After 11
-    unfolding afterOne refusal put act placeAfter base step live written
-    vdd-high sck hold p v stage s = on p w v sck si wp hold stage s
-
     any-pin : (code : ℕ) → leb 12 code ≡ false → After code
+    unfolding afterOne refusal put act placeAfter base step live written
     any-pin code h =
         each After 12 0 code
-        (cs-low also cs-high also sck-low also sck-high also si-low also si-high
-        also hold-low also hold-high also wp-low also wp-high also vdd-low also vdd-high also tt)
+        (cs-low also cs-high also sck-low also sck-high
+        also (λ sck hold p v stage s. on p w v sck false wp hold stage s)
+        also (λ sck hold p v stage s. on p w v sck true wp hold stage s)
+        also hold-low also hold-high
+        also (λ sck hold p v stage s. on p w v sck si false hold stage s)
+        also (λ sck hold p v stage s. on p w v sck si true hold stage s)
+        also (λ sck hold p v stage s. rw (← select-world (figureOf part) w s) (off (v .kept) (v .array)))
+        also (λ sck hold p v stage s. on p w v sck si wp hold stage s)
+        also tt)
         zero-le (leb-false 12 code h)
 
   -- with power off only event 11 has an effect
