@@ -20,7 +20,7 @@ use Rattle.parts.specs.declared.figures.Figure.{Figure}
 use Rattle.lines.specs.Lines.{atRest}
 use Rattle.chip.specs.Power.{powerUp, filled}
 use Rattle.chip.specs.declared.power.Powered.{Powered}
-use Rattle.report.specs.Items.{itemEvents}
+use Rattle.trace.specs.Items.{itemEvents}
 use Rattle.report.specs.Lines.{partLine}
 use Rattle.report.specs.Record.{mostShown}
 use Rattle.bench.specs.Bench.{Bench, deskOf, onPage, benchOf}

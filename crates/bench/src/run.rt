@@ -15,10 +15,10 @@ use chip::power::power_up;
 use lines::state::State;
 use parts::figures::LARGEST;
 use parts::figures::figure_of;
-use report::items::event_of;
-use report::items::events_of;
 use trace::answer::Read;
 use trace::answer::number_of;
+use trace::items::event_of;
+use trace::items::events_of;
 use trace::reader::number_at;
 
 // One item: its events, up to the first that is refused.

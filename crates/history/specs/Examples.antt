@@ -4,10 +4,10 @@ use Prim.Native.Nat.{ℕ}
 use mathlib.Core.Bool.{Bool, true, false, not, _&&_, _||_}
 use mathlib.Core.List.{List, [], _∷_, _++_}
 use lib.Dec.{T, eqb}
+use Rattle.trace.specs.Clocked.{clocked}
 use Rattle.parts.specs.Figures.{figureOf}
 use Rattle.parts.specs.Commands.{command}
 use Rattle.parts.specs.Guards.{firstProtected, mayStore, mayKeep}
-use Rattle.stages.specs.Clocked.{clocked}
 use Rattle.select.specs.declared.notes.Note.the-variants.{Latch, Stored, KeptSet}
 use Rattle.chip.specs.Examples.Run.{Example, writes, idle, transfer, wren, same, blank, overlaid}
 use Rattle.chip.specs.Examples.Starred.{starred}

@@ -3,7 +3,7 @@
 use mathlib.Core.Path.{_≡_, refl, _∙_}
 use Prim.Native.Nat.{_-_}
 use lib.ListN.{length, drop}
-use Rattle.report.specs.Items.{itemEvents}
+use Rattle.trace.specs.Items.{itemEvents}
 use Rattle.bench.specs.Bench.{benchOf, onPage}
 use Rattle.bench.specs.Page.{pageOf}
 use Rattle.bench.specs.Run.{afterEvents, afterItem}

@@ -2,10 +2,10 @@
 use Prim.Native.Nat.{_-_, _/_, _^_}
 use native.Mathlib.Omega.{arith}
 use lib.Bits.{and-le-r}
-use Rattle.report.proofs.Pulses.{si-beat, up-beat, down-beat}
+use Rattle.trace.proofs.Pulses.{si-beat, up-beat, down-beat}
 use borrow.Author.Needs.{needs}
-use Rattle.report.proofs.items.data_event.Statement.{statement}
-use Rattle.report.proofs.items.data_event.Tie as tie
+use Rattle.trace.proofs.items.data_event.Statement.{statement}
+use Rattle.trace.proofs.items.data_event.Tie as tie
 
 add-result : tie.Need-add-result
 add-result c = omega (arith, and-le-r (c .before .args .byte / 2 ^ (7 - c .before .args .k / 3)) 1)

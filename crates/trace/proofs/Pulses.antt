@@ -9,8 +9,9 @@ use lib.Bits.{bitAnd, and-mask}
 use lib.Dec.{eqb}
 use lib.ListN.{length, getD}
 use mathlib.Core.Bool.{cond}
-use Rattle.report.specs.Items.{itemEvents}
-use Rattle.stages.specs.Clocked.{bitAt, pulses, clocked}
+use Rattle.trace.specs.Items.{itemEvents}
+use Rattle.trace.specs.Clocked.{pulses, clocked}
+use Rattle.parts.specs.Bits.{bitAt}
 
 -- the event at a place of a pulse, and the bit that is due
 abbrev pub beat : ℕ → ℕ → ℕ → ℕ

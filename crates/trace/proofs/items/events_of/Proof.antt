@@ -1,9 +1,9 @@
 -- One event, or eight times three.
-use Rattle.report.specs.Items.{itemEvents}
-use Rattle.stages.specs.Clocked.{clocked}
+use Rattle.trace.specs.Items.{itemEvents}
+use Rattle.trace.specs.Clocked.{clocked}
 use borrow.Author.Tests.{le-ltb, lt-ltb}
-use Rattle.report.proofs.items.events_of.Statement.{statement}
-use Rattle.report.proofs.items.events_of.Tie as tie
+use Rattle.trace.proofs.items.events_of.Statement.{statement}
+use Rattle.trace.proofs.items.events_of.Tie as tie
 
 returns : tie.Need-returns
 unfolding itemEvents

@@ -1,13 +1,13 @@
 -- Past its events an item has none; an event has itself alone; a data byte has the event of its place.
 use mathlib.Core.Path.{sym}
 use lib.ListN.{List·getD-eq-default}
-use Rattle.report.specs.Items.{itemEvents}
-use Rattle.stages.specs.Clocked.{clocked}
-use Rattle.report.proofs.Pulses.{sole}
+use Rattle.trace.specs.Items.{itemEvents}
+use Rattle.trace.specs.Clocked.{clocked}
+use Rattle.trace.proofs.Pulses.{sole}
 use borrow.Author.Tests.{le-ltb}
 use borrow.Author.Needs.{needs}
-use Rattle.report.proofs.items.event_of.Statement.{statement}
-use Rattle.report.proofs.items.event_of.Tie as tie
+use Rattle.trace.proofs.items.event_of.Statement.{statement}
+use Rattle.trace.proofs.items.event_of.Tie as tie
 
 returns : tie.Need-returns
 returns c = sym (List·getD-eq-default (itemEvents (c .before .before .args .item)) 0 (rw (c .before .events-of .ensures) at (c .if1 .taken)))

@@ -2,8 +2,8 @@
 ghost use mathlib.Core.Path.{_≡_};
 ghost use Prim.Native.Nat.{_<_};
 ghost use lib.ListN.{getD, length};
-ghost use Rattle.report.specs.Items.{itemEvents};
-ghost use Rattle.stages.specs.Clocked.{clocked};
+ghost use Rattle.trace.specs.Items.{itemEvents};
+ghost use Rattle.trace.specs.Clocked.{clocked};
 
 // The events of a data byte: eight times SI, SCK up, SCK down.
 const CLOCKED: u64 = 24;
