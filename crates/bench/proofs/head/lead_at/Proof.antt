@@ -17,7 +17,9 @@ returns-2 c = ap leadOf (sym (ap readTold (c .before .at .given .1)) ∙ c .befo
 
 returns-3 : tie.Need-returns-3
 unfolding leading
-returns-3 c = rw (c .number-of .ensures) (ap leadOf (sym (ap readTold (c .before .before .refusal .given .1)) ∙ c .before .before .before .before .number-at .ensures))
+returns-3 c =
+    let found = c .before .before in
+    rw (c .number-of .ensures) (ap leadOf (sym (ap readTold (found .refusal .given .1)) ∙ found .before .before .number-at .ensures))
 
 pub lead-at-spec : {M : Type 1} → statement M
 lead-at-spec =

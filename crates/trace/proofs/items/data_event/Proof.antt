@@ -10,15 +10,6 @@ use Rattle.trace.proofs.items.data_event.Tie as tie
 add-result : tie.Need-add-result
 add-result c = omega (arith, and-le-r (c .before .args .byte / 2 ^ (7 - c .before .args .k / 3)) 1)
 
-returns : tie.Need-returns
-returns c = si-beat (c .before .args .byte) (c .before .args .k) (c .before .pre) (c .match .keys1)
-
-returns-2 : tie.Need-returns-2
-returns-2 c = up-beat (c .before .args .byte) (c .before .args .k) (c .before .pre) (c .match .keys2)
-
-returns-3 : tie.Need-returns-3
-returns-3 c = down-beat (c .before .args .byte) (c .before .args .k) (c .before .pre) (c .match .rest .0 .1) (c .match .rest .1)
-
 pub data-event-spec : {M : Type 1} → statement M
 data-event-spec =
     tie.close
@@ -26,6 +17,6 @@ data-event-spec =
     (λ c. search needs)
     (λ c. search needs)
     add-result
-    returns
-    returns-2
-    returns-3)
+    (λ c. search si-beat)
+    (λ c. search up-beat)
+    (λ c. search down-beat))

@@ -7,7 +7,11 @@ use Rattle.bench.proofs.stand.Stand.clocked.Tie as tie
 
 returns : tie.Need-returns
 unfolding clockedBy shownBy
-returns c = (simp (c .rise .ensures .0, c .before .before .so .ensures, ← c .before .before .before .before .sees-rise .ensures, c .before .before .before .if1 .taken), simp (c .rise .ensures .1, c .before .before .so .ensures, ← c .before .before .before .before .sees-rise .ensures, c .before .before .before .if1 .taken))
+returns c =
+    let test = c .before .before .before in
+    let so = c .before .before .so .ensures in
+    let seen = test .before .sees-rise .ensures in
+    (simp (c .rise .ensures .0, so, ← seen, test .if1 .taken), simp (c .rise .ensures .1, so, ← seen, test .if1 .taken))
 
 returns-2 : tie.Need-returns-2
 unfolding clockedBy shownBy
