@@ -15,10 +15,11 @@ capital-requires-2 c κs = omega (arith, and-le-r (c .before .args .byte) 15)
 
 returns : tie.Need-returns
 unfolding hex
-returns c = (
-  omega arith,
-  same (simp (c .before .before .before .capital2 .ensures, c .before .before .before .before .capital .ensures, and-mask (c .before .before .before .before .before .args .byte) 4)) (c .put .ensures),
-)
+returns c =
+    let low = c .before .before .before in (
+      omega arith,
+      same (simp (low .capital2 .ensures, low .before .capital .ensures, and-mask (low .before .before .args .byte) 4)) (c .put .ensures),
+    )
 
 pub put-hex-spec : {M : Type 1} → statement M
 put-hex-spec =
