@@ -9,7 +9,7 @@ use report::lines::LINE;
 use report::lines::end_line;
 use report::lines::part_line;
 use report::lines::select_line;
-use report::record::MOST_SHOWN;
+use report::record::SHOWN;
 
 // The bytes of a text.
 fn print(out: &mut [u8], at: usize, text: &[u8]) -> usize
@@ -38,12 +38,7 @@ pub(crate) fn print_part(out: &mut [u8], at: usize, part: u64, size: u64, kept: 
 }
 
 // The line of the last select.
-pub(crate) fn print_select(
-    out: &mut [u8],
-    at: usize,
-    stand: Stand,
-    shown: &[u8; MOST_SHOWN],
-) -> usize
+pub(crate) fn print_select(out: &mut [u8], at: usize, stand: Stand, shown: &[u8; SHOWN]) -> usize
     ensures { λ r. ⌜ pageOf (now (out .exit)) r ≡ printed (pageOf (now (out .entry)) at) (selectText stand (now (shown .entry))) ⌝ }
 {
     let mut line = [0u8; LINE];

@@ -15,7 +15,7 @@ use chip::power::power_up;
 use lines::state::State;
 use parts::figures::LARGEST;
 use parts::figures::figure_of;
-use report::record::MOST_SHOWN;
+use report::record::SHOWN;
 use trace::answer::Read;
 use trace::answer::number_of;
 use trace::items::event_of;
@@ -26,7 +26,7 @@ use trace::reader::number_at;
 fn take_item(
     turn: Turn,
     array: &mut [u8],
-    shown: &mut [u8; MOST_SHOWN],
+    shown: &mut [u8; SHOWN],
     out: &mut [u8],
     item: u64,
 ) -> Turn
@@ -52,7 +52,7 @@ fn take_items(
     at: usize,
     turn: Turn,
     array: &mut [u8],
-    shown: &mut [u8; MOST_SHOWN],
+    shown: &mut [u8; SHOWN],
     out: &mut [u8],
 ) -> Turn
     ensures { λ r. ⌜ deskOf r (now (array .exit)) (now (shown .exit)) (now (out .exit))
@@ -104,13 +104,7 @@ fn start(lead: Head, array: &mut [u8], out: &mut [u8]) -> Turn
 }
 
 // From power-up on, with an array of the part's size.
-fn run(
-    trace: &[u8],
-    lead: Head,
-    array: &mut [u8],
-    shown: &mut [u8; MOST_SHOWN],
-    out: &mut [u8],
-) -> Turn
+fn run(trace: &[u8], lead: Head, array: &mut [u8], shown: &mut [u8; SHOWN], out: &mut [u8]) -> Turn
     ensures { λ r. ⌜ deskOf r (now (array .exit)) (now (shown .exit)) (now (out .exit))
         ≡ onPage (pageOf (now (out .entry)) 0) (ran (now (trace .entry)) lead (now (array .entry)) (now (shown .entry))) ⌝ }
 {
@@ -119,7 +113,7 @@ fn run(
 }
 
 // The whole run, but for what is left to tell at its end.
-pub(crate) fn run_whole(trace: &[u8], shown: &mut [u8; MOST_SHOWN], out: &mut [u8]) -> Turn
+pub(crate) fn run_whole(trace: &[u8], shown: &mut [u8; SHOWN], out: &mut [u8]) -> Turn
     ensures { λ r. ⌜ r .refusal ≡ replayed (now (trace .entry)) (now (shown .entry)) .refusal ⌝ }
     ensures { λ r. ⌜ r .stand ≡ replayed (now (trace .entry)) (now (shown .entry)) .stand ⌝ }
     ensures { λ _. ⌜ now (shown .exit) ≡ replayed (now (trace .entry)) (now (shown .entry)) .shown ⌝ }

@@ -5,8 +5,8 @@ use chip::event::Answer;
 use lines::state::State;
 use lines::watch::is_open;
 use lines::watch::sees_rise;
-use report::record::MOST_SHOWN;
 use report::record::Record;
+use report::record::SHOWN;
 use report::record::count;
 
 pub struct Stand {
@@ -36,7 +36,7 @@ impl Stand {
     }
 
     // The record after an event: a seen rise takes SI and SO as they stood before it.
-    fn clocked(self, code: u64, shown: &mut [u8; MOST_SHOWN]) -> Record
+    fn clocked(self, code: u64, shown: &mut [u8; SHOWN]) -> Record
         ensures { λ r. ⌜ r ≡ clockedBy self code ⌝ }
         ensures { λ _. ⌜ now (shown .exit) ≡ shownBy (now (shown .entry)) self code ⌝ }
     {
@@ -49,7 +49,7 @@ impl Stand {
     }
 
     // After an accepted event.
-    pub fn after(self, code: u64, answer: Answer, shown: &mut [u8; MOST_SHOWN]) -> Stand
+    pub fn after(self, code: u64, answer: Answer, shown: &mut [u8; SHOWN]) -> Stand
         ensures { λ r. ⌜ r ≡ after self code answer ⌝ }
         ensures { λ _. ⌜ now (shown .exit) ≡ shownBy (now (shown .entry)) self code ⌝ }
     {

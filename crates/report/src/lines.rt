@@ -9,8 +9,8 @@ ghost use Rattle.report.specs.Record.{mostShown};
 ghost use Rattle.report.specs.Text.{Puts, lineRoom, mostDigits};
 ghost use Rattle.report.specs.Lines.{codeText, shownText, numbered, partLine, countsText, selectLine, endLine};
 use crate::record::CODE_CLOCKS;
-use crate::record::MOST_SHOWN;
 use crate::record::Record;
+use crate::record::SHOWN;
 use crate::text::put;
 use crate::text::put_decimal;
 use crate::text::put_hex;
@@ -41,7 +41,7 @@ fn put_shown(out: &mut [u8; LINE], at: usize, shown: &[u8], whole: u64) -> usize
     if whole == 0 {
         return put(out, at, b"-");
     }
-    if whole <= MOST_SHOWN as u64 {
+    if whole <= SHOWN as u64 {
         let n = whole as usize;
         return put_hexes(out, at, &shown[..n]);
     }
@@ -85,12 +85,7 @@ fn put_counts(out: &mut [u8; LINE], at: usize, told: Record) -> usize
 }
 
 // A select's line, by its number, its record and the first bytes of SO.
-pub fn select_line(
-    out: &mut [u8; LINE],
-    number: u64,
-    told: Record,
-    shown: &[u8; MOST_SHOWN],
-) -> usize
+pub fn select_line(out: &mut [u8; LINE], number: u64, told: Record, shown: &[u8; SHOWN]) -> usize
     ensures { λ r. ⌜ Counts r (now (out .exit)) ⌝ }
     ensures { λ r. ⌜ r ≡ length (selectLine number told (now (shown .entry))) ⌝ }
     ensures { λ r. ⌜ now (out .exit) ≡ selectLine number told (now (shown .entry)) ++ drop r (now (out .entry)) ⌝ }

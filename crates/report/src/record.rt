@@ -8,7 +8,7 @@ use stages::bits::Taken;
 use stages::bits::take_bit;
 
 // "at most the first 64" bytes of SO, and the clocks of an op-code. `specs/Record.antt` has them for the definitions.
-pub const MOST_SHOWN: usize = 64;
+pub const SHOWN: usize = 64;
 
 pub const CODE_CLOCKS: u64 = 8;
 
@@ -53,10 +53,10 @@ fn code_after(clocks: u64, code: u8, si: bool) -> u8
 }
 
 // The byte at its place; a byte that the buffer has no place for is not kept.
-fn keep(shown: &mut [u8; MOST_SHOWN], at: u64, byte: u8)
+fn keep(shown: &mut [u8; SHOWN], at: u64, byte: u8)
     ensures { λ _. ⌜ now (shown .exit) ≡ keptAt (now (shown .entry)) at byte ⌝ }
 {
-    if at < MOST_SHOWN as u64 {
+    if at < SHOWN as u64 {
         shown[at as usize] = byte;
     }
 }
@@ -76,7 +76,7 @@ impl Record {
     }
 
     // After a seen rise, with SI and SO as they stood before it.
-    pub fn rise(self, si: bool, so: Level, shown: &mut [u8; MOST_SHOWN]) -> Record
+    pub fn rise(self, si: bool, so: Level, shown: &mut [u8; SHOWN]) -> Record
         ensures { λ r. ⌜ r ≡ risen self si so ⌝ }
         ensures { λ _. ⌜ now (shown .exit) ≡ shownAfter (now (shown .entry)) self so ⌝ }
     {

@@ -7,14 +7,6 @@ use borrow.Author.Needs.{needs}
 use Rattle.bench.proofs.head.lead_at.Statement.{statement}
 use Rattle.bench.proofs.head.lead_at.Tie as tie
 
-returns : tie.Need-returns
-unfolding leading
-returns c = ap leadOf (sym (ap readTold (c .before .value .given .1)) ∙ c .before .before .before .number-at .ensures)
-
-returns-2 : tie.Need-returns-2
-unfolding leading
-returns-2 c = ap leadOf (sym (ap readTold (c .before .at .given .1)) ∙ c .before .before .before .number-at .ensures)
-
 returns-3 : tie.Need-returns-3
 unfolding leading
 returns-3 c =
@@ -22,6 +14,7 @@ returns-3 c =
     rw (c .number-of .ensures) (ap leadOf (sym (ap readTold (found .refusal .given .1)) ∙ found .before .before .number-at .ensures))
 
 pub lead-at-spec : {M : Type 1} → statement M
+unfolding leading
 lead-at-spec =
     tie.close
     (tie.spec
@@ -30,6 +23,6 @@ lead-at-spec =
     (λ c. search needs)
     (λ c. search needs)
     (λ c κs. search needs)
-    returns
-    returns-2
+    (λ c. ap leadOf (sym (ap readTold (c .before .value .given .1)) ∙ c .before .before .before .number-at .ensures))
+    (λ c. ap leadOf (sym (ap readTold (c .before .at .given .1)) ∙ c .before .before .before .number-at .ensures))
     returns-3)

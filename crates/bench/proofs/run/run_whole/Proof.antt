@@ -10,12 +10,6 @@ use borrow.Author.Needs.{needs}
 use Rattle.bench.proofs.run.run_whole.Statement.{statement}
 use Rattle.bench.proofs.run.run_whole.Tie as tie
 
-array-borrow-prefix-array : tie.Need-array-borrow-prefix-array
-array-borrow-prefix-array c = rw (c .figure-of .ensures) (largest _)
-
-slice-aggregate-run : tie.Need-slice-aggregate-run
-slice-aggregate-run c = sym (length-take-le _ _ (rw (c .before .figure-of .ensures) (largest _)))
-
 returns-2 : tie.Need-returns-2
 returns-2 c =
     let run = c .before .before .before in
@@ -32,8 +26,8 @@ run-whole-spec =
     (λ c κs. search needs)
     (λ c. whole (replayed _ _) _ _ [] _ _ (search replayed-not))
     (λ c κs. search needs)
-    array-borrow-prefix-array
-    slice-aggregate-run
+    (λ c. rw (c .figure-of .ensures) (largest _))
+    (λ c. sym (length-take-le _ _ (rw (c .before .figure-of .ensures) (largest _))))
     (λ c κs. search needs)
     (λ c. search needs)
     returns-2)

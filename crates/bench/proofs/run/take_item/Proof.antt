@@ -21,10 +21,6 @@ Inv-loop array₀ shown₀ out₀ item events turn₀ k₀ array shown out turn 
 abbrev μ-loop : tie.MeasureT-loop
 μ-loop array₀ shown₀ out₀ item events turn₀ k₀ array shown out turn k = events - k
 
-returns : tie.Need-returns Inv-loop μ-loop
-unfolding afterItem
-returns c = search (events-end, _∙_)
-
 loop-again : tie.Need-loop-again Inv-loop μ-loop
 loop-again c =
     let taken = c .before .before .before .before in
@@ -37,11 +33,8 @@ loop-again c =
           ∙ test .before .loop .inv .2,
     )
 
-returns-2 : tie.Need-returns-2 Inv-loop μ-loop
-unfolding afterItem
-returns-2 c = search (events-over, _∙_)
-
 pub take-item-spec : {M : Type 1} → statement M
+unfolding afterItem
 take-item-spec =
     tie.close
     (tie.spec
@@ -51,7 +44,7 @@ take-item-spec =
     (λ c. search needs)
     (λ c. search needs)
     (λ c. search needs)
-    returns
+    (λ c. search (events-end, _∙_))
     (λ c κs. search needs)
     (λ c κs. search needs)
     (λ c. search needs)
@@ -59,4 +52,4 @@ take-item-spec =
     loop-again
     (λ c. search needs)
     (λ c. search needs)
-    returns-2)
+    (λ c. search (events-over, _∙_)))

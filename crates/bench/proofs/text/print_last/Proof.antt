@@ -5,4 +5,5 @@ use Rattle.bench.proofs.text.print_last.Statement.{statement}
 use Rattle.bench.proofs.text.print_last.Tie as tie
 
 pub print-last-spec : {M : Type 1} → statement M
-print-last-spec = tie.close (tie.spec (λ c κs. search needs) (λ c κs. search needs) (λ c. search needs) (λ c. search print-then))
+print-last-spec =
+    tie.close (tie.spec (λ c κs. search needs) (λ c κs. search needs) (λ c. search needs) (λ c. search print-then))

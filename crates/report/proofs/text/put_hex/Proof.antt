@@ -7,12 +7,6 @@ use borrow.Author.Needs.{needs}
 use Rattle.report.proofs.text.put_hex.Statement.{statement}
 use Rattle.report.proofs.text.put_hex.Tie as tie
 
-cast-capital-2 : tie.Need-cast-capital-2
-cast-capital-2 c = omega (arith, and-le-r (c .before .args .byte) 15)
-
-capital-requires-2 : tie.Need-capital-requires-2
-capital-requires-2 c κs = omega (arith, and-le-r (c .before .args .byte) 15)
-
 returns : tie.Need-returns
 unfolding hex
 returns c =
@@ -27,8 +21,8 @@ put-hex-spec =
     (tie.spec
     (λ c. search needs)
     (λ c κs. search needs)
-    cast-capital-2
-    capital-requires-2
+    (λ c. omega (arith, and-le-r (c .before .args .byte) 15))
+    (λ c κs. omega (arith, and-le-r (c .before .args .byte) 15))
     (λ c. search needs)
     (λ c κs. search needs)
     returns)

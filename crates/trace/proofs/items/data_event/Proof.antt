@@ -7,16 +7,13 @@ use borrow.Author.Needs.{needs}
 use Rattle.trace.proofs.items.data_event.Statement.{statement}
 use Rattle.trace.proofs.items.data_event.Tie as tie
 
-add-result : tie.Need-add-result
-add-result c = omega (arith, and-le-r (c .before .args .byte / 2 ^ (7 - c .before .args .k / 3)) 1)
-
 pub data-event-spec : {M : Type 1} → statement M
 data-event-spec =
     tie.close
     (tie.spec
     (λ c. search needs)
     (λ c. search needs)
-    add-result
+    (λ c. omega (arith, and-le-r (c .before .args .byte / 2 ^ (7 - c .before .args .k / 3)) 1))
     (λ c. search si-beat)
     (λ c. search up-beat)
     (λ c. search down-beat))

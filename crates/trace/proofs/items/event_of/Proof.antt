@@ -6,10 +6,4 @@ use Rattle.trace.proofs.items.event_of.Tie as tie
 
 pub event-of-spec : {M : Type 1} → statement M
 event-of-spec =
-    tie.close
-    (tie.spec
-    (λ c κs. search needs)
-    (λ c. search past)
-    (λ c. search sole)
-    (λ c κs. search within)
-    (λ c. search of-byte))
+    tie.close (tie.spec (λ c κs. search needs) (λ c. search past) (λ c. search sole) (λ c κs. search within) (λ c. search of-byte))

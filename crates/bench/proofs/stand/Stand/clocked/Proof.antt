@@ -13,9 +13,13 @@ returns c =
     let seen = test .before .sees-rise .ensures in
     (simp (c .rise .ensures .0, so, ← seen, test .if1 .taken), simp (c .rise .ensures .1, so, ← seen, test .if1 .taken))
 
-returns-2 : tie.Need-returns-2
-unfolding clockedBy shownBy
-returns-2 c = (simp (← c .before .sees-rise .ensures, c .if1 .left), simp (← c .before .sees-rise .ensures, c .if1 .left))
-
 pub clocked-spec : {M : Type 1} → statement M
-clocked-spec = tie.close (tie.spec (λ c κs. search needs) (λ c κs. search needs) (λ c κs. search needs) returns returns-2)
+unfolding clockedBy shownBy
+clocked-spec =
+    tie.close
+    (tie.spec
+    (λ c κs. search needs)
+    (λ c κs. search needs)
+    (λ c κs. search needs)
+    returns
+    (λ c. (simp (← c .before .sees-rise .ensures, c .if1 .left), simp (← c .before .sees-rise .ensures, c .if1 .left))))

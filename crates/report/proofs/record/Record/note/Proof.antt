@@ -12,10 +12,6 @@ use borrow.Author.Needs.{needs}
 use Rattle.report.proofs.record.Record.note.Statement.{statement}
 use Rattle.report.proofs.record.Record.note.Tie as tie
 
-returns : tie.Need-returns
-unfolding noted
-returns c = simp (c .count .ensures, c .before .enum-told .given .1)
-
 other : (r : Record) (note : Note) → OneOf (0 ∷ 1 ∷ 3 ∷ 4 ∷ 5 ∷ 6 ∷ []) (tagOf the-type note) → r ≡ noted r note
 unfolding noted
 other r Nothing h = refl
@@ -27,5 +23,11 @@ other r (KeptHeldBack reason) h = refl
 other r PowerLost h = refl
 
 pub note-spec : {M : Type 1} → statement M
+unfolding noted
 note-spec =
-    tie.close (tie.spec (λ c. search needs) (λ c κs. search needs) returns (λ c. other _ _ (c .match .keys2)))
+    tie.close
+    (tie.spec
+    (λ c. search needs)
+    (λ c κs. search needs)
+    (λ c. simp (c .count .ensures, c .before .enum-told .given .1))
+    (λ c. other _ (c .before .args .note) (c .match .keys2)))
