@@ -23,8 +23,7 @@ use Rattle.trace.specs.declared.answer.Read.the-variants.{Number}
 use Rattle.trace.specs.declared.number.Shape.the-variants.{Whole}
 use Rattle.trace.specs.ByteLaws.{below, bytes-within, bytes-first, low-bytes}
 use Rattle.trace.specs.ScanLaws.{sized, reading-beyond, reading-end, reading-inside, scanned-ill, scanned-well, scanned-spelt}
-use Rattle.trace.specs.SpellingLaws.{Spells, few, some-bytes, shaped, form-spells}
-use Rattle.trace.specs.SpellingLaws.{one-form as sole-form}
+use Rattle.trace.specs.SpellingLaws.{Spells, few, some-bytes, shaped, form-spells, one-form as sole-form}
 use Rattle.trace.specs.WriteLaws.{at-placing}
 
 -- ---- the form

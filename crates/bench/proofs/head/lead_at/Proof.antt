@@ -1,8 +1,7 @@
 -- What stands at a place: a number, the end, which is refusal 8, or a refusal.
 use mathlib.Core.Path.{sym, ap, _∙_}
 use Rattle.trace.specs.Answers.{readTold}
-use Rattle.bench.specs.Head.{leadOf}
-use Rattle.bench.specs.Head.{leading}
+use Rattle.bench.specs.Head.{leadOf, leading}
 use borrow.Author.Needs.{needs}
 use Rattle.bench.proofs.head.lead_at.Statement.{statement}
 use Rattle.bench.proofs.head.lead_at.Tie as tie

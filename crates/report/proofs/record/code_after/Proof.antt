@@ -1,5 +1,4 @@
 -- The first eight rises have the op-code.
-use native.Mathlib.Omega.{arith}
 use borrow.Author.Tests.{le-leb, lt-leb}
 use Rattle.report.specs.Record.{codeAfter}
 use Rattle.report.proofs.record.code_after.Statement.{statement}
@@ -10,6 +9,6 @@ unfolding codeAfter
 code-after-spec =
     tie.close
     (tie.spec
-    (λ c. simp (le-leb 8 (c .before .args .clocks) (omega (arith, c .if1 .taken))))
-    (λ c. simp (c .if2 .taken, lt-leb 8 (c .before .before .args .clocks) (omega (arith, c .before .if1 .left))))
-    (λ c. simp (c .if2 .left, lt-leb 8 (c .before .before .args .clocks) (omega (arith, c .before .if1 .left)))))
+    (λ c. simp (le-leb _ _ (c .if1 .taken)))
+    (λ c. simp (c .if2 .taken, lt-leb _ _ (c .before .if1 .left)))
+    (λ c. simp (c .if2 .left, lt-leb _ _ (c .before .if1 .left))))

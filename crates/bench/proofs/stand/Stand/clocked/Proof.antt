@@ -1,6 +1,5 @@
 -- A rise that is seen goes into the record, with SI and SO as they stood before it.
-use Rattle.bench.specs.Stand.{shownBy}
-use Rattle.bench.specs.Stand.{clockedBy}
+use Rattle.bench.specs.Stand.{shownBy, clockedBy}
 use borrow.Author.Needs.{needs}
 use Rattle.bench.proofs.stand.Stand.clocked.Statement.{statement}
 use Rattle.bench.proofs.stand.Stand.clocked.Tie as tie
