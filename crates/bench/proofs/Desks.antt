@@ -8,7 +8,7 @@ use lib.Dec.{eqb}
 use Rattle.lines.specs.declared.state.State.{State}
 use Rattle.chip.specs.Event.{event, written}
 use Rattle.chip.specs.declared.event.Answer.{Answer}
-use Rattle.report.specs.Items.{itemEvents}
+use Rattle.trace.specs.Items.{itemEvents}
 use Rattle.bench.specs.Bench.{Bench, goesOn, stopped, closing, taken, answered, afterEvent, deskOf, onPage, benchOf}
 use Rattle.bench.specs.Page.{Page, pageOf, printed}
 use Rattle.bench.specs.Run.{afterEvents, afterItem, afterItems, itemsFrom, endedBy, ranFrom}

@@ -41,4 +41,5 @@ module _ (s : List ℕ) where
   unfolding itemsFrom
   items-on at =
       enough (length s - at) (suc (length s - at)) at (omega arith) (omega arith)
-      ∙ alike at (itemsIn (length s - at) s) (itemsFrom s) (λ n next e. let m = forward s at n next e in enough (length s - at) (length s - next) next (omega arith) (omega arith))
+      ∙ alike at (itemsIn (length s - at) s) (itemsFrom s)
+      (λ n next e. let m = forward s at n next e in enough (length s - at) (length s - next) next (omega arith) (omega arith))

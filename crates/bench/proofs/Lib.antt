@@ -2,5 +2,4 @@ pub mod Pages
 pub mod Desks
 pub mod Events
 pub mod Items
-pub mod Reading
 pub mod Runs

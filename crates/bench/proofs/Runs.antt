@@ -18,12 +18,13 @@ use Rattle.parts.specs.Figures.{figureOf}
 use Rattle.parts.specs.FigureLaws.{most, largest}
 use Rattle.parts.specs.declared.figures.Figure.{Figure}
 use Rattle.lines.specs.Lines.{atRest}
+use Rattle.lines.specs.declared.state.State.{State}
 use Rattle.chip.specs.Power.{powerUp, filled}
 use Rattle.chip.specs.declared.power.Powered.{Powered}
-use Rattle.report.specs.Items.{itemEvents}
+use Rattle.trace.specs.Items.{itemEvents}
 use Rattle.report.specs.Lines.{partLine}
 use Rattle.report.specs.Record.{mostShown}
-use Rattle.bench.specs.Bench.{Bench, deskOf, onPage, benchOf}
+use Rattle.bench.specs.Bench.{Bench, Desk, deskOf, onPage, benchOf}
 use Rattle.bench.specs.Head.{headOf}
 use Rattle.bench.specs.Page.{Page, pageOf, printed}
 use Rattle.bench.specs.Report.{lastText, wholeText, report, reported}
@@ -91,12 +92,12 @@ take-replicate (suc n) (suc m) a h = ap (λ (l : List ℕ). a ∷ l) (take-repli
 
 -- the whole run, where both numbers that lead the trace are read
 pub replayed-led :
-    (s os : List ℕ) (lead : Head) (f : Figure)
+    (s os : List ℕ) (lead : Head) (f : Figure) (p : Page) (d : Desk)
     → lead ≡ headOf s → lead .refusal ≡ 0 → f ≡ figureOf (lead .part)
-    → ran s lead (take (f .size) (replicate most 0)) os ≡ replayed s os
+    → d ≡ onPage p (ran s lead (take (f .size) (replicate most 0)) os) → d ≡ onPage p (replayed s os)
 unfolding replayed
-replayed-led s os lead f led none row =
-    rw (row, take-replicate (figureOf (lead .part) .size) most 0 (largest (lead .part)), ← led, eq-eqb _ _ none)
+replayed-led s os lead f p d led none row e =
+    e ∙ rw (row, take-replicate (figureOf (lead .part) .size) most 0 (largest (lead .part)), ← led, eq-eqb _ _ none)
 
 -- the start, by what fill, power-up and the printing of line 1 leave
 module _ (lead : Head) (xs os out : List ℕ) (p : Powered) (ys : List ℕ) (s : Stand)
@@ -133,12 +134,12 @@ ran-on s lead xs os out t ys out′ e =
 
 -- the whole run, where a number that leads the trace is refused
 pub replayed-not :
-    (s os out : List ℕ) (lead : Head) (stand : Stand)
-    → lead ≡ headOf s → (lead .refusal ≡ 0 → ⊥) → stand ≡ begun (atRest 1 0 false)
+    (s os out : List ℕ) (lead : Head) (chip : State) (stand : Stand)
+    → lead ≡ headOf s → (lead .refusal ≡ 0 → ⊥) → chip ≡ atRest 1 0 false → stand ≡ begun chip
     → deskOf (record { refusal = lead .refusal; stand = stand; at = 0 }) [] os out ≡ onPage (pageOf out 0) (replayed s os)
 unfolding replayed
-replayed-not s os out lead stand led h rests =
-    desk-is (record { refusal = lead .refusal; stand = stand; at = 0 }) [] os out ∙ rw (rests, ← led, ne-eqb _ _ h)
+replayed-not s os out lead chip stand led h rests new =
+    desk-is (record { refusal = lead .refusal; stand = stand; at = 0 }) [] os out ∙ rw (new, rests, ← led, ne-eqb _ _ h)
 
 -- what is left of the whole run: all but the array
 pub whole : (b : Bench) (p : Page) (t : Turn) (xs os out : List ℕ) → deskOf t xs os out ≡ onPage p b

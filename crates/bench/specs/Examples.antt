@@ -4,12 +4,12 @@ use Prim.Native.Nat.{ℕ}
 use mathlib.Core.Bool.{Bool, true, _&&_}
 use mathlib.Core.List.{List, [], _∷_, _++_}
 use lib.Dec.{T}
+use Rattle.trace.specs.Clocked.{clocked}
 use Rattle.trace.specs.Number.{reading}
 use Rattle.parts.specs.Figures.{figureOf}
 use Rattle.parts.specs.Commands.{command}
 use Rattle.stages.specs.Address.{afterCode}
 use Rattle.stages.specs.Bits.{takeBit, bitOf}
-use Rattle.stages.specs.Clocked.{clocked}
 use Rattle.stages.specs.Sound.{soundStage}
 use Rattle.select.specs.Fall.{showArray, showStatus, fall}
 use Rattle.select.specs.Rise.{opened, codeRise, rise}
@@ -19,7 +19,7 @@ use Rattle.lines.specs.Watch.{isOpen, seesRise}
 use Rattle.chip.specs.Event.{live, step, checks, event, written}
 use Rattle.chip.specs.Examples.Run.{same}
 use Rattle.chip.specs.Power.{fillRefusal, filled, powerRefusal, powerUp}
-use Rattle.report.specs.Items.{itemEvents}
+use Rattle.trace.specs.Items.{itemEvents}
 use Rattle.report.specs.Lines.{codeText, shownText, partLine, countsText, selectLine, endLine}
 use Rattle.report.specs.Record.{counted, codeAfter, sampled, risen, shownAfter, noted}
 use Rattle.report.specs.Text.{ascii, capitals, hex, decimal}

@@ -11,7 +11,7 @@ use Rattle.parts.specs.Figures.{figureOf}
 use Rattle.lines.specs.Lines.{atRest}
 use Rattle.chip.specs.Power.{powerUp, filled}
 use Rattle.chip.specs.declared.power.Powered.{Powered}
-use Rattle.report.specs.Items.{itemEvents}
+use Rattle.trace.specs.Items.{itemEvents}
 use Rattle.report.specs.Lines.{partLine}
 use Rattle.bench.specs.Bench.{Bench, goesOn, stopped, afterEvent}
 use Rattle.bench.specs.Head.{headOf}

@@ -5,9 +5,11 @@ ghost use Rattle.report.specs.Lines.{partLine, endLine};
 ghost use Rattle.bench.specs.Bench.{selectText};
 ghost use Rattle.bench.specs.Page.{pageOf, printed};
 use crate::stand::Stand;
+use report::lines::LINE;
 use report::lines::end_line;
 use report::lines::part_line;
 use report::lines::select_line;
+use report::record::SHOWN;
 
 // The bytes of a text.
 fn print(out: &mut [u8], at: usize, text: &[u8]) -> usize
@@ -30,16 +32,16 @@ fn print(out: &mut [u8], at: usize, text: &[u8]) -> usize
 pub(crate) fn print_part(out: &mut [u8], at: usize, part: u64, size: u64, kept: u8) -> usize
     ensures { λ r. ⌜ pageOf (now (out .exit)) r ≡ printed (pageOf (now (out .entry)) at) (partLine part size kept) ⌝ }
 {
-    let mut line = [0u8; 256];
+    let mut line = [0u8; LINE];
     let n = part_line(&mut line, part, size, kept);
     print(out, at, &line[..n])
 }
 
 // The line of the last select.
-pub(crate) fn print_select(out: &mut [u8], at: usize, stand: Stand, shown: &[u8; 64]) -> usize
+pub(crate) fn print_select(out: &mut [u8], at: usize, stand: Stand, shown: &[u8; SHOWN]) -> usize
     ensures { λ r. ⌜ pageOf (now (out .exit)) r ≡ printed (pageOf (now (out .entry)) at) (selectText stand (now (shown .entry))) ⌝ }
 {
-    let mut line = [0u8; 256];
+    let mut line = [0u8; LINE];
     let n = select_line(&mut line, stand.selects, stand.told, shown);
     print(out, at, &line[..n])
 }
@@ -48,7 +50,7 @@ pub(crate) fn print_select(out: &mut [u8], at: usize, stand: Stand, shown: &[u8;
 pub(crate) fn print_end(out: &mut [u8], at: usize, kept: u8, latch: bool, refusal: u8) -> usize
     ensures { λ r. ⌜ pageOf (now (out .exit)) r ≡ printed (pageOf (now (out .entry)) at) (endLine kept latch refusal) ⌝ }
 {
-    let mut line = [0u8; 256];
+    let mut line = [0u8; LINE];
     let n = end_line(&mut line, kept, latch, refusal);
     print(out, at, &line[..n])
 }

@@ -2,10 +2,12 @@
 use crate::text::report;
 use libc::STDIN_FILENO;
 use libc::STDOUT_FILENO;
+use report::lines::LINE;
+use trace::reader::MOST_BYTES;
 
 // Room for the report of 32,768 bytes: a select takes two of them at least, 0 and 1, and a line is 256 bytes at most,
 // so 16,385 lines of selects, line 1 and the last line. This is argued here and not proved.
-const ROOM: usize = 4_195_072;
+const ROOM: usize = (MOST_BYTES / 2 + 3) * LINE;
 
 // The report of a trace, by way of a slice.
 fn write_report(trace: &[u8], out: &mut [u8]) {
@@ -26,7 +28,7 @@ pub fn replay(trace: &[u8]) {
 
 // "It reads a trace from standard input, up to 32,768 bytes, as if the input ended there."
 pub fn replay_input() {
-    let mut input = [0u8; 32768];
+    let mut input = [0u8; MOST_BYTES];
     let n = io::read_full(STDIN_FILENO, &mut input);
     replay(&input[..n]);
 }

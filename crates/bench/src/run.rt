@@ -15,14 +15,21 @@ use chip::power::power_up;
 use lines::state::State;
 use parts::figures::LARGEST;
 use parts::figures::figure_of;
-use report::items::event_of;
-use report::items::events_of;
+use report::record::SHOWN;
 use trace::answer::Read;
 use trace::answer::number_of;
+use trace::items::event_of;
+use trace::items::events_of;
 use trace::reader::number_at;
 
 // One item: its events, up to the first that is refused.
-fn take_item(turn: Turn, array: &mut [u8], shown: &mut [u8; 64], out: &mut [u8], item: u64) -> Turn
+fn take_item(
+    turn: Turn,
+    array: &mut [u8],
+    shown: &mut [u8; SHOWN],
+    out: &mut [u8],
+    item: u64,
+) -> Turn
     ensures { λ r. ⌜ deskOf r (now (array .exit)) (now (shown .exit)) (now (out .exit))
         ≡ onPage (pageOf (now (out .entry)) (turn .at)) (afterItem (benchOf turn (now (array .entry)) (now (shown .entry))) item) ⌝ }
 {
@@ -45,7 +52,7 @@ fn take_items(
     at: usize,
     turn: Turn,
     array: &mut [u8],
-    shown: &mut [u8; 64],
+    shown: &mut [u8; SHOWN],
     out: &mut [u8],
 ) -> Turn
     ensures { λ r. ⌜ deskOf r (now (array .exit)) (now (shown .exit)) (now (out .exit))
@@ -97,7 +104,7 @@ fn start(lead: Head, array: &mut [u8], out: &mut [u8]) -> Turn
 }
 
 // From power-up on, with an array of the part's size.
-fn run(trace: &[u8], lead: Head, array: &mut [u8], shown: &mut [u8; 64], out: &mut [u8]) -> Turn
+fn run(trace: &[u8], lead: Head, array: &mut [u8], shown: &mut [u8; SHOWN], out: &mut [u8]) -> Turn
     ensures { λ r. ⌜ deskOf r (now (array .exit)) (now (shown .exit)) (now (out .exit))
         ≡ onPage (pageOf (now (out .entry)) 0) (ran (now (trace .entry)) lead (now (array .entry)) (now (shown .entry))) ⌝ }
 {
@@ -106,7 +113,7 @@ fn run(trace: &[u8], lead: Head, array: &mut [u8], shown: &mut [u8; 64], out: &m
 }
 
 // The whole run, but for what is left to tell at its end.
-pub(crate) fn run_whole(trace: &[u8], shown: &mut [u8; 64], out: &mut [u8]) -> Turn
+pub(crate) fn run_whole(trace: &[u8], shown: &mut [u8; SHOWN], out: &mut [u8]) -> Turn
     ensures { λ r. ⌜ r .refusal ≡ replayed (now (trace .entry)) (now (shown .entry)) .refusal ⌝ }
     ensures { λ r. ⌜ r .stand ≡ replayed (now (trace .entry)) (now (shown .entry)) .stand ⌝ }
     ensures { λ _. ⌜ now (shown .exit) ≡ replayed (now (trace .entry)) (now (shown .entry)) .shown ⌝ }

@@ -1,11 +1,12 @@
 // What stands on the bench: the chip, how many selects it saw, and the record of the last of them.
 ghost use mathlib.Core.Path.{_≡_};
-ghost use Rattle.bench.specs.Stand.{opens, closes, begun, clockedBy, shownBy, after};
+ghost use Rattle.bench.specs.Stand.{closes, begun, clockedBy, shownBy, after};
 use chip::event::Answer;
 use lines::state::State;
 use lines::watch::is_open;
 use lines::watch::sees_rise;
 use report::record::Record;
+use report::record::SHOWN;
 use report::record::count;
 
 pub struct Stand {
@@ -35,7 +36,7 @@ impl Stand {
     }
 
     // The record after an event: a seen rise takes SI and SO as they stood before it.
-    fn clocked(self, code: u64, shown: &mut [u8; 64]) -> Record
+    fn clocked(self, code: u64, shown: &mut [u8; SHOWN]) -> Record
         ensures { λ r. ⌜ r ≡ clockedBy self code ⌝ }
         ensures { λ _. ⌜ now (shown .exit) ≡ shownBy (now (shown .entry)) self code ⌝ }
     {
@@ -48,7 +49,7 @@ impl Stand {
     }
 
     // After an accepted event.
-    pub fn after(self, code: u64, answer: Answer, shown: &mut [u8; 64]) -> Stand
+    pub fn after(self, code: u64, answer: Answer, shown: &mut [u8; SHOWN]) -> Stand
         ensures { λ r. ⌜ r ≡ after self code answer ⌝ }
         ensures { λ _. ⌜ now (shown .exit) ≡ shownBy (now (shown .entry)) self code ⌝ }
     {

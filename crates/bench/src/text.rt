@@ -8,9 +8,10 @@ use crate::run::run_whole;
 use crate::stand::Stand;
 use crate::turn::Turn;
 use lines::watch::is_open;
+use report::record::SHOWN;
 
 // The line of a select left open.
-fn print_open(out: &mut [u8], at: usize, stand: Stand, shown: &[u8; 64]) -> usize
+fn print_open(out: &mut [u8], at: usize, stand: Stand, shown: &[u8; SHOWN]) -> usize
     ensures { λ r. ⌜ pageOf (now (out .exit)) r ≡ printed (pageOf (now (out .entry)) at) (openText stand (now (shown .entry))) ⌝ }
 {
     let chip = stand.chip;
@@ -21,7 +22,7 @@ fn print_open(out: &mut [u8], at: usize, stand: Stand, shown: &[u8; 64]) -> usiz
 }
 
 // What is left to tell at the end: the line of a select left open, and the last line.
-fn print_last(out: &mut [u8], turn: Turn, shown: &[u8; 64]) -> usize
+fn print_last(out: &mut [u8], turn: Turn, shown: &[u8; SHOWN]) -> usize
     ensures { λ r. ⌜ pageOf (now (out .exit)) r
         ≡ printed (pageOf (now (out .entry)) (turn .at)) (lastText (turn .stand) (turn .refusal) (now (shown .entry))) ⌝ }
 {
@@ -36,7 +37,7 @@ fn print_last(out: &mut [u8], turn: Turn, shown: &[u8; 64]) -> usize
 pub fn report(trace: &[u8], out: &mut [u8]) -> usize
     ensures { λ r. ⌜ pageOf (now (out .exit)) r ≡ reported (now (trace .entry)) (now (out .entry)) ⌝ }
 {
-    let mut shown = [0u8; 64];
+    let mut shown = [0u8; SHOWN];
     let turn = run_whole(trace, &mut shown, out);
     print_last(out, turn, &shown)
 }

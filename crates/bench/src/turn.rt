@@ -5,6 +5,7 @@ ghost use Rattle.bench.specs.Page.{pageOf};
 use crate::page::print_select;
 use crate::stand::Stand;
 use chip::event::event;
+use report::record::SHOWN;
 
 // What stands on the bench after some events, the refusal that stopped them, or 0, and how much of the page is printed.
 pub struct Turn {
@@ -17,7 +18,7 @@ pub struct Turn {
 pub(crate) fn take_event(
     turn: Turn,
     array: &mut [u8],
-    shown: &mut [u8; 64],
+    shown: &mut [u8; SHOWN],
     out: &mut [u8],
     code: u64,
 ) -> Turn

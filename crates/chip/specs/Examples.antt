@@ -2,12 +2,12 @@
 -- each of its rules from the ways in which it could be misread. A list has one proof. Assumes nothing.
 use mathlib.Core.Bool.{_&&_}
 use lib.Dec.{T}
+use Rattle.trace.specs.Clocked.{clocked}
 use Rattle.parts.specs.Figures.{figureOf}
 use Rattle.parts.specs.Commands.{command}
 use Rattle.parts.specs.Guards.{firstProtected, mayStore, mayKeep}
 use Rattle.stages.specs.Address.{afterCode, afterAddress, nextAddress}
 use Rattle.stages.specs.Bits.{takeBit, bitOf}
-use Rattle.stages.specs.Clocked.{clocked}
 use Rattle.stages.specs.Sound.{soundStage}
 use Rattle.select.specs.Fall.{showArray, showStatus, fall}
 use Rattle.select.specs.Rise.{opened, codeRise, upperRise, lowerRise, writeRise, keepRise, rise}

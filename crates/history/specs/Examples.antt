@@ -4,11 +4,11 @@ use Prim.Native.Nat.{ℕ}
 use mathlib.Core.Bool.{Bool, true, false, _&&_}
 use mathlib.Core.List.{List, [], _∷_, _++_}
 use lib.Dec.{T}
+use Rattle.trace.specs.Clocked.{clocked}
 use Rattle.parts.specs.Figures.{figureOf}
 use Rattle.parts.specs.Commands.{command}
 use Rattle.parts.specs.Guards.{firstProtected, mayStore, mayKeep}
 use Rattle.stages.specs.Bits.{lowBit}
-use Rattle.stages.specs.Clocked.{clocked}
 use Rattle.select.specs.declared.notes.Note.the-variants.{Latch, Stored, KeptSet}
 use Rattle.chip.specs.Examples.Run.{Example, writes, idle, transfer, wren, same, blank, withStored}
 use Rattle.chip.specs.Examples.Starred.{starred}

@@ -9,11 +9,11 @@ use borrow.Author.Tests.{eqb-true, eqb-false}
 use lib.Bits.{bitAnd, and-le-r}
 use lib.Dec.{eqb}
 use lib.ListN.{length}
+use Rattle.parts.specs.Bits.{bitAt}
 use Rattle.parts.specs.FigureLaws.{fair, below-count}
 use Rattle.parts.specs.Figures.{parts, figureOf, isPart, inMask}
 use Rattle.parts.specs.TestLaws.{both, left, right}
 use Rattle.stages.specs.Bits.{lowBit}
-use Rattle.stages.specs.Clocked.{bitAt}
 use Rattle.select.specs.Fall.{statusByte}
 use Rattle.lines.specs.Sound.{sound}
 use Rattle.lines.specs.SoundLaws.{good}

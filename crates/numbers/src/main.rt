@@ -5,11 +5,11 @@ use libc::STDOUT_FILENO;
 use trace::answer::Read;
 use trace::answer::Refusal;
 use trace::answer::number_of;
+use trace::reader::MOST_BYTES;
 use trace::reader::number_at;
 
 fn main() {
-    // document 01, "The replay program": "up to 32,768 bytes, as if the input ended there"
-    let mut buf = [0u8; 32768];
+    let mut buf = [0u8; MOST_BYTES];
     let n = io::read_full(STDIN_FILENO, &mut buf);
     list(&buf[..n]);
 }

@@ -1,3 +1,4 @@
+pub mod Bits
 pub mod Figures
 pub mod Commands
 pub mod Guards

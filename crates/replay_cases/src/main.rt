@@ -8,7 +8,9 @@ use bench::replay::replay;
 use libc::STDIN_FILENO;
 use libc::STDOUT_FILENO;
 
-// The longest trace of a case.
+// The longest input, and the longest trace of a case.
+const INPUT: usize = 32768;
+
 const LONGEST: usize = 256;
 
 // Where the next byte of the input stands: at a line's start, in a comment, in a title, before a byte of the trace, or
@@ -29,7 +31,7 @@ struct Case {
 }
 
 fn main() {
-    let mut text = [0u8; 32768];
+    let mut text = [0u8; INPUT];
     let mut trace = [0u8; LONGEST];
     let n = io::read_full(STDIN_FILENO, &mut text);
     cases(&text[..n], &mut trace);

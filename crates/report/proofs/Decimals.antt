@@ -10,7 +10,7 @@ use native.Mathlib.Omega.{arith}
 use borrow.Author.Tests.{lt-ltb, le-ltb, leb-true, leb-false}
 use lib.Dec.{leb}
 use Rattle.io.specs.Digits.{digits, Fewest, glyph}
-use Rattle.report.specs.Text.{decimalIn}
+use Rattle.report.specs.Text.{decimalIn, mostDigits}
 
 last : (n : ℕ) → glyph (n % 10) ≡ 48 + n % 10
 last n = rw (lt-ltb (n % 10) 10 (mod-lt n (omega arith)))
@@ -39,15 +39,15 @@ decimal-is (suc (suc j)) (suc most) n h le =
     let large : 10 ≤ n = le-trans (ten j) (h .2 (omega arith)) in
     rw (le-ltb n 10 large, last n, decimal-is (suc j) most (n / 10) (tenth j n h) (omega arith))
 
--- a machine number has at most twenty digits
-pub short : (k n : ℕ) → n < 2 ^ 64 → Fewest 10 1 n k → k ≤ 20
-short k n small h = go (leb k 20) refl
+-- a machine number has no more digits
+pub short : (k n : ℕ) → n < 2 ^ 64 → Fewest 10 1 n k → k ≤ mostDigits
+short k n small h = go (leb k mostDigits) refl
   where
-    far : 20 < k → ⊥
+    far : mostDigits < k → ⊥
     far long =
-        let least : 10 ^ 20 ≤ n = le-trans (pow-le-pow-right {n = 10} (omega arith) {i = 20} {j = k - 1} (omega arith)) (h .2 (omega arith)) in
+        let least : 10 ^ mostDigits ≤ n = le-trans (pow-le-pow-right {n = 10} (omega arith) {i = mostDigits} {j = k - 1} (omega arith)) (h .2 (omega arith)) in
         omega arith
 
-    go : (t : Bool) → leb k 20 ≡ t → k ≤ 20
-    go true e = leb-true k 20 e
-    go false e = absurd (far (leb-false k 20 e))
+    go : (t : Bool) → leb k mostDigits ≡ t → k ≤ mostDigits
+    go true e = leb-true k mostDigits e
+    go false e = absurd (far (leb-false k mostDigits e))

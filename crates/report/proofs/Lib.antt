@@ -1,3 +1,2 @@
-pub mod Pulses
 pub mod Pieces
 pub mod Decimals

@@ -1,4 +1,3 @@
-pub mod Items
 pub mod Text
 pub mod Record
 pub mod RecordLaws

@@ -5,8 +5,7 @@ use mathlib.Core.List.{List}
 use lib.Bits.{bitOr}
 use lib.Dec.{leb, ltb}
 use lib.ListN.{set}
-use Rattle.stages.specs.Bits.{lowBit, takeBit}
-use Rattle.stages.specs.Bits.{fresh as noBits}
+use Rattle.stages.specs.Bits.{lowBit, takeBit, fresh as noBits}
 use Rattle.stages.specs.declared.bits.Taken.{Taken}
 use Rattle.stages.specs.declared.bits.Taken.the-variants.{Part, Whole}
 use Rattle.select.specs.declared.notes.Level.{Level}

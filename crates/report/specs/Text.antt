@@ -14,6 +14,10 @@ pub record Puts (before : List ℕ) (at : ℕ) (text after : List ℕ) (next : �
   pub bytes : after ≡ sets before at text
   pub ends : next ≡ at + length text
 
+-- the bytes that a line's buffer has; every line fits
+abbrev pub lineRoom : ℕ
+lineRoom = 256
+
 -- the bytes of a text
 abbrev pub ascii : String → List ℕ
 ascii none = []
@@ -38,6 +42,10 @@ decimalIn zero n = []
 decimalIn (suc most) n =
     cond (ltb n 10) ((48 + n) ∷ []) (decimalIn most (n / 10) ++ ((48 + n % 10) ∷ []))
 
--- "other numbers are decimal": no number here has more than twenty digits
+-- no number here has more digits
+abbrev pub mostDigits : ℕ
+mostDigits = 20
+
+-- "other numbers are decimal"
 unfoldable pub decimal : ℕ → List ℕ
-decimal n = decimalIn 20 n
+decimal n = decimalIn mostDigits n

@@ -2,41 +2,46 @@
 // answer is its length.
 ghost use mathlib.Core.Path.{_≡_};
 ghost use mathlib.Core.List.{_++_};
-ghost use Prim.Native.Nat.{_+_, _≤_};
+ghost use Prim.Native.Nat.{_+_, _*_, _≤_};
 ghost use lib.ListN.{length, drop};
 ghost use Rattle.io.specs.Counts.{Counts};
 ghost use Rattle.report.specs.Record.{mostShown};
-ghost use Rattle.report.specs.Text.{Puts};
+ghost use Rattle.report.specs.Text.{Puts, lineRoom, mostDigits};
 ghost use Rattle.report.specs.Lines.{codeText, shownText, numbered, partLine, countsText, selectLine, endLine};
+use crate::record::CODE_CLOCKS;
 use crate::record::Record;
+use crate::record::SHOWN;
 use crate::text::put;
 use crate::text::put_decimal;
 use crate::text::put_hex;
 use crate::text::put_hexes;
 
+// The bytes of the buffer; `specs/Text.antt` has it for the definitions.
+pub const LINE: usize = 256;
+
 // "op-code in hex, or "--" under eight clocks".
-fn put_code(out: &mut [u8; 256], at: usize, clocks: u64, code: u8) -> usize
-    requires { ⌜ at + 2 ≤ 256 ⌝ }
+fn put_code(out: &mut [u8; LINE], at: usize, clocks: u64, code: u8) -> usize
+    requires { ⌜ at + 2 ≤ lineRoom ⌝ }
     ensures { λ r. ⌜ r ≡ at + 2 ⌝ }
     ensures { λ r. ⌜ Puts (now (out .entry)) at (codeText clocks code) (now (out .exit)) r ⌝ }
 {
-    if clocks < 8 {
+    if clocks < CODE_CLOCKS {
         return put(out, at, b"--");
     }
     put_hex(out, at, code)
 }
 
-// The whole bytes of SO, the first 64 of which the buffer has.
-fn put_shown(out: &mut [u8; 256], at: usize, shown: &[u8], whole: u64) -> usize
-    requires { ⌜ at + 129 ≤ 256 ⌝ }
+// The whole bytes of SO, the first of which the buffer has.
+fn put_shown(out: &mut [u8; LINE], at: usize, shown: &[u8], whole: u64) -> usize
+    requires { ⌜ at + (2 * mostShown + 1) ≤ lineRoom ⌝ }
     requires { ⌜ length (now shown) ≡ mostShown ⌝ }
-    ensures { λ r. ⌜ r ≤ at + 129 ⌝ }
+    ensures { λ r. ⌜ r ≤ at + (2 * mostShown + 1) ⌝ }
     ensures { λ r. ⌜ Puts (now (out .entry)) at (shownText (now (shown .entry)) whole) (now (out .exit)) r ⌝ }
 {
     if whole == 0 {
         return put(out, at, b"-");
     }
-    if whole <= 64 {
+    if whole <= SHOWN as u64 {
         let n = whole as usize;
         return put_hexes(out, at, &shown[..n]);
     }
@@ -45,9 +50,9 @@ fn put_shown(out: &mut [u8; 256], at: usize, shown: &[u8], whole: u64) -> usize
 }
 
 // A word and its number.
-fn put_numbered(out: &mut [u8; 256], at: usize, word: &[u8], n: u64) -> usize
-    requires { ⌜ at + length (now word) + 20 ≤ 256 ⌝ }
-    ensures { λ r. ⌜ r ≤ at + length (now (word .entry)) + 20 ⌝ }
+fn put_numbered(out: &mut [u8; LINE], at: usize, word: &[u8], n: u64) -> usize
+    requires { ⌜ at + length (now word) + mostDigits ≤ lineRoom ⌝ }
+    ensures { λ r. ⌜ r ≤ at + length (now (word .entry)) + mostDigits ⌝ }
     ensures { λ r. ⌜ Puts (now (out .entry)) at (numbered (now (word .entry)) n) (now (out .exit)) r ⌝ }
 {
     let next = put(out, at, word);
@@ -55,7 +60,7 @@ fn put_numbered(out: &mut [u8; 256], at: usize, word: &[u8], n: u64) -> usize
 }
 
 // "Line 1: part, size, kept bits in hex".
-pub fn part_line(out: &mut [u8; 256], part: u64, size: u64, kept: u8) -> usize
+pub fn part_line(out: &mut [u8; LINE], part: u64, size: u64, kept: u8) -> usize
     ensures { λ r. ⌜ Counts r (now (out .exit)) ⌝ }
     ensures { λ r. ⌜ r ≡ length (partLine part size kept) ⌝ }
     ensures { λ r. ⌜ now (out .exit) ≡ partLine part size kept ++ drop r (now (out .entry)) ⌝ }
@@ -68,8 +73,8 @@ pub fn part_line(out: &mut [u8; 256], part: u64, size: u64, kept: u8) -> usize
 }
 
 // The op-code, seen rises and stored notes of a select.
-fn put_counts(out: &mut [u8; 256], at: usize, told: Record) -> usize
-    requires { ⌜ at + 62 ≤ 256 ⌝ }
+fn put_counts(out: &mut [u8; LINE], at: usize, told: Record) -> usize
+    requires { ⌜ at + 62 ≤ lineRoom ⌝ }
     ensures { λ r. ⌜ r ≤ at + 62 ⌝ }
     ensures { λ r. ⌜ Puts (now (out .entry)) at (countsText told) (now (out .exit)) r ⌝ }
 {
@@ -80,7 +85,7 @@ fn put_counts(out: &mut [u8; 256], at: usize, told: Record) -> usize
 }
 
 // A select's line, by its number, its record and the first bytes of SO.
-pub fn select_line(out: &mut [u8; 256], number: u64, told: Record, shown: &[u8; 64]) -> usize
+pub fn select_line(out: &mut [u8; LINE], number: u64, told: Record, shown: &[u8; SHOWN]) -> usize
     ensures { λ r. ⌜ Counts r (now (out .exit)) ⌝ }
     ensures { λ r. ⌜ r ≡ length (selectLine number told (now (shown .entry))) ⌝ }
     ensures { λ r. ⌜ now (out .exit) ≡ selectLine number told (now (shown .entry)) ++ drop r (now (out .entry)) ⌝ }
@@ -93,7 +98,7 @@ pub fn select_line(out: &mut [u8; 256], number: u64, told: Record, shown: &[u8; 
 }
 
 // "Last line: kept bits in hex (00 before power-up), latch (0 before power-up), refusal."
-pub fn end_line(out: &mut [u8; 256], kept: u8, latch: bool, refusal: u8) -> usize
+pub fn end_line(out: &mut [u8; LINE], kept: u8, latch: bool, refusal: u8) -> usize
     ensures { λ r. ⌜ Counts r (now (out .exit)) ⌝ }
     ensures { λ r. ⌜ r ≡ length (endLine kept latch refusal) ⌝ }
     ensures { λ r. ⌜ now (out .exit) ≡ endLine kept latch refusal ++ drop r (now (out .entry)) ⌝ }

@@ -7,6 +7,11 @@ use stages::bits::NO_BITS;
 use stages::bits::Taken;
 use stages::bits::take_bit;
 
+// "at most the first 64" bytes of SO, and the clocks of an op-code. `specs/Record.antt` has them for the definitions.
+pub const SHOWN: usize = 64;
+
+pub const CODE_CLOCKS: u64 = 8;
+
 pub struct Record {
     // Seen rises.
     pub clocks: u64,
@@ -41,17 +46,17 @@ fn sample(bits: u16, so: Level) -> Taken
 fn code_after(clocks: u64, code: u8, si: bool) -> u8
     ensures { λ r. ⌜ r ≡ codeAfter clocks code si ⌝ }
 {
-    if 8 <= clocks {
+    if CODE_CLOCKS <= clocks {
         return code;
     }
     if si { (code << 1) | 1 } else { (code << 1) | 0 }
 }
 
 // The byte at its place; a byte that the buffer has no place for is not kept.
-fn keep(shown: &mut [u8; 64], at: u64, byte: u8)
+fn keep(shown: &mut [u8; SHOWN], at: u64, byte: u8)
     ensures { λ _. ⌜ now (shown .exit) ≡ keptAt (now (shown .entry)) at byte ⌝ }
 {
-    if at < 64 {
+    if at < SHOWN as u64 {
         shown[at as usize] = byte;
     }
 }
@@ -71,7 +76,7 @@ impl Record {
     }
 
     // After a seen rise, with SI and SO as they stood before it.
-    pub fn rise(self, si: bool, so: Level, shown: &mut [u8; 64]) -> Record
+    pub fn rise(self, si: bool, so: Level, shown: &mut [u8; SHOWN]) -> Record
         ensures { λ r. ⌜ r ≡ risen self si so ⌝ }
         ensures { λ _. ⌜ now (shown .exit) ≡ shownAfter (now (shown .entry)) self so ⌝ }
     {
@@ -102,16 +107,11 @@ impl Record {
         ensures { λ r. ⌜ r ≡ noted self note ⌝ }
     {
         match note {
-            Note::Nothing => self,
-            Note::Latch(_) => self,
             Note::Stored(_, _) => Record {
                 stored: count(self.stored),
                 ..self
             },
-            Note::HeldBack(_, _) => self,
-            Note::KeptSet(_) => self,
-            Note::KeptHeldBack(_) => self,
-            Note::PowerLost => self,
+            _ => self,
         }
     }
 }

@@ -3,7 +3,11 @@
 ghost use mathlib.Core.Path.{_≡_};
 ghost use Prim.Native.Nat.{_+_, _*_, _≤_, _<_};
 ghost use lib.ListN.{getD, length};
-ghost use Rattle.report.specs.Text.{Puts, capitals, hex, hexes, decimal};
+ghost use Rattle.report.specs.Text.{Puts, lineRoom, capitals, hex, hexes, mostDigits, decimal};
+use crate::lines::LINE;
+
+// The most digits of a number; `specs/Text.antt` has it for the definitions.
+const DIGITS: usize = 20;
 
 // "Hex is two capital digits a byte".
 const CAPITALS: [u8; 16] = *b"0123456789ABCDEF";
@@ -30,8 +34,8 @@ pub(crate) fn put(out: &mut [u8], at: usize, text: &[u8]) -> usize
 }
 
 // The two digits of a byte.
-pub(crate) fn put_hex(out: &mut [u8; 256], at: usize, byte: u8) -> usize
-    requires { ⌜ at + 2 ≤ 256 ⌝ }
+pub(crate) fn put_hex(out: &mut [u8; LINE], at: usize, byte: u8) -> usize
+    requires { ⌜ at + 2 ≤ lineRoom ⌝ }
     ensures { λ r. ⌜ r ≡ at + 2 ⌝ }
     ensures { λ r. ⌜ Puts (now (out .entry)) at (hex byte) (now (out .exit)) r ⌝ }
 {
@@ -41,8 +45,8 @@ pub(crate) fn put_hex(out: &mut [u8; 256], at: usize, byte: u8) -> usize
 }
 
 // The digits of bytes, "with no spaces between bytes".
-pub(crate) fn put_hexes(out: &mut [u8; 256], at: usize, bytes: &[u8]) -> usize
-    requires { ⌜ at + 2 * length (now bytes) ≤ 256 ⌝ }
+pub(crate) fn put_hexes(out: &mut [u8; LINE], at: usize, bytes: &[u8]) -> usize
+    requires { ⌜ at + 2 * length (now bytes) ≤ lineRoom ⌝ }
     ensures { λ r. ⌜ r ≡ at + 2 * length (now (bytes .entry)) ⌝ }
     ensures { λ r. ⌜ Puts (now (out .entry)) at (hexes (now (bytes .entry))) (now (out .exit)) r ⌝ }
 {
@@ -56,12 +60,12 @@ pub(crate) fn put_hexes(out: &mut [u8; 256], at: usize, bytes: &[u8]) -> usize
 }
 
 // "other numbers are decimal".
-pub(crate) fn put_decimal(out: &mut [u8; 256], at: usize, n: u64) -> usize
-    requires { ⌜ at + 20 ≤ 256 ⌝ }
-    ensures { λ r. ⌜ r ≤ at + 20 ⌝ }
+pub(crate) fn put_decimal(out: &mut [u8; LINE], at: usize, n: u64) -> usize
+    requires { ⌜ at + mostDigits ≤ lineRoom ⌝ }
+    ensures { λ r. ⌜ r ≤ at + mostDigits ⌝ }
     ensures { λ r. ⌜ Puts (now (out .entry)) at (decimal n) (now (out .exit)) r ⌝ }
 {
-    let mut digits = [0u8; 20];
+    let mut digits = [0u8; DIGITS];
     let k = io::decimal(n, &mut digits);
     put(out, at, &digits[..k])
 }

@@ -1,8 +1,9 @@
 -- The bits of a byte, "most significant bit first". Assumes nothing.
-use Prim.Native.Nat.{ℕ, _+_, _*_, _/_, _%_, _^_}
+use Prim.Native.Nat.{ℕ, _*_, _%_}
 use mathlib.Core.Bool.{Bool, true, false, cond}
 use lib.Dec.{eqb, ltb}
-use lib.Bits.{bitAnd, bitOr}
+use lib.Bits.{bitOr}
+use Rattle.parts.specs.Bits.{bitAt}
 use Rattle.stages.specs.declared.stage.Line.{Line}
 use Rattle.stages.specs.declared.stage.Line.the-variants.{Down, Up}
 use Rattle.stages.specs.declared.bits.Taken.{Taken}
@@ -25,6 +26,6 @@ shifted shift si = bitOr (shift * 2 % 65536) (lowBit si)
 unfoldable pub takeBit : ℕ → Bool → Taken
 takeBit shift si = cond (ltb (shifted shift si) 256) (Part (shifted shift si)) (Whole (shifted shift si % 256))
 
--- bit number `bit` of a byte
+-- bit number `bit` of a byte, as a level
 unfoldable pub bitOf : ℕ → ℕ → Line
-bitOf byte bit = cond (eqb (bitAnd (byte / 2 ^ bit) 1) 1) Up Down
+bitOf byte bit = cond (eqb (bitAt byte bit) 1) Up Down

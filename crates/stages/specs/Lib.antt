@@ -3,4 +3,3 @@ pub mod Address
 pub mod Close
 pub mod Sound
 pub mod SoundLaws
-pub mod Clocked

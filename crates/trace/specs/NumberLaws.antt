@@ -2,7 +2,7 @@
 --     reads-back, write-reads-back     a number that is written reads back as written, with the place after it, whatever stands around it
 --     read-form, one-form              each number has one form only: two byte strings that read as one number are the same bytes
 --     form-fits, form-shortest         the form has at most `groups` bytes, and no bytes of the same value are fewer
---     forward                          reading moves forward, and stays in the slice
+--     forward, less-left               reading moves forward, and stays in the slice; so a loop over it ends
 -- Assumes nothing.
 use mathlib.Core.Path.{_≡_, sym, ap, _∙_, subst}
 use mathlib.Core.Logic.{⊎-elim}
@@ -14,14 +14,16 @@ use borrow.Author.Tests.{le-ltb, lt-ltb}
 use lib.ListN.{length, getD, take, drop, length-append, length-drop}
 use lib.Seq.{drop-append-seam, drop-at, length-take-le, take-add, getD-drop, slice}
 use Rattle.trace.specs.Figures.{groups, largest}
-use Rattle.trace.specs.Answers.{Told, accepted, ended, placed, refused}
+use Rattle.trace.specs.Answers.{Told, accepted, ended, placed, refused, readTold}
 use Rattle.trace.specs.Form.{bytes, value, form}
 use Rattle.trace.specs.Number.{reading, writing, over, written}
+use Rattle.trace.specs.Promises.{ReadPromise}
+use Rattle.trace.specs.declared.answer.Read.{Read}
+use Rattle.trace.specs.declared.answer.Read.the-variants.{Number}
 use Rattle.trace.specs.declared.number.Shape.the-variants.{Whole}
 use Rattle.trace.specs.ByteLaws.{below, bytes-within, bytes-first, low-bytes}
 use Rattle.trace.specs.ScanLaws.{sized, reading-beyond, reading-end, reading-inside, scanned-ill, scanned-well, scanned-spelt}
-use Rattle.trace.specs.SpellingLaws.{Spells, few, some-bytes, shaped, form-spells}
-use Rattle.trace.specs.SpellingLaws.{one-form as sole-form}
+use Rattle.trace.specs.SpellingLaws.{Spells, few, some-bytes, shaped, form-spells, one-form as sole-form}
 use Rattle.trace.specs.WriteLaws.{at-placing}
 
 -- ---- the form
@@ -114,6 +116,10 @@ pub forward : (s : List ℕ) (at n next : ℕ) → reading s at ≡ accepted n n
 forward s at n next e =
     let a = accepting s at n next e in
     omega (arith, some-bytes (a .spells), bytes-within (drop at s), length-drop at s)
+
+pub less-left : (s : List ℕ) (at n next : ℕ) (found : Read) → ReadPromise s at found → found ≡ Number n next
+    → length s - next < length s - at
+less-left s at n next found read is = omega (arith, forward s at n next (sym read ∙ ap readTold is))
 
 pub read-form : (s : List ℕ) (at n next : ℕ) → ((i : ℕ) → getD s i 0 < 256) → reading s at ≡ accepted n next → slice at next s ≡ form n
 read-form s at n next byte e =

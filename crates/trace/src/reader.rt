@@ -41,6 +41,9 @@ fn place_of(found: Read) -> usize
     }
 }
 
+// "up to 32,768 bytes, as if the input ended there": the most that a program reads of a trace.
+pub const MOST_BYTES: usize = 32768;
+
 // The number at a place of a slice, by a reader made for it: what programs call. Its contract says
 // nothing of a reader.
 pub fn number_at(s: &[u8], at: usize) -> Read

@@ -1,13 +1,14 @@
 -- How an example is run and what is told of it: every answer counts, and the whole state at the end. Computed from the
 -- definitions that the calls' promises cite. Assumes nothing.
-use Prim.Native.Nat.{ℕ, _*_, _/_, _%_}
+use Prim.Native.Nat.{ℕ, _*_}
 use mathlib.Core.Bool.{Bool, true, false, cond, _&&_}
-use mathlib.Core.List.{List, [], _∷_, _++_}
+use mathlib.Core.List.{List, [], _∷_, _++_, map}
 use lib.ListN.{set, take, replicate}
 use lib.Dec.{eqb}
+use Rattle.trace.specs.Clocked.{clocked}
+use Rattle.parts.specs.Bits.{bitAt}
 use Rattle.parts.specs.Figures.{figureOf}
 use Rattle.stages.specs.Bits.{lowBit}
-use Rattle.stages.specs.Clocked.{clocked}
 use Rattle.stages.specs.declared.stage.Came.the-variants.{NoByte, Bytes}
 use Rattle.stages.specs.declared.stage.End.the-variants.{Quiet, Drops}
 use Rattle.stages.specs.declared.stage.Line.{Line}
@@ -127,7 +128,7 @@ driven [] = []
 driven (l ∷ ls) = cond (eqb l 2) (driven ls) (l ∷ driven ls)
 
 abbrev pub bits : ℕ → List ℕ
-bits byte = byte / 128 % 2 ∷ byte / 64 % 2 ∷ byte / 32 % 2 ∷ byte / 16 % 2 ∷ byte / 8 % 2 ∷ byte / 4 % 2 ∷ byte / 2 % 2 ∷ byte % 2 ∷ []
+bits byte = map (bitAt byte) (7 ∷ 6 ∷ 5 ∷ 4 ∷ 3 ∷ 2 ∷ 1 ∷ 0 ∷ [])
 
 abbrev pub bitsOf : List ℕ → List ℕ
 bitsOf [] = []

@@ -1,25 +1,19 @@
 -- What stands at a place: a number, the end, which is refusal 8, or a refusal.
 use mathlib.Core.Path.{sym, ap, _∙_}
 use Rattle.trace.specs.Answers.{readTold}
-use Rattle.bench.specs.Head.{leadOf}
-use Rattle.bench.specs.Head.{leading}
+use Rattle.bench.specs.Head.{leadOf, leading}
 use borrow.Author.Needs.{needs}
 use Rattle.bench.proofs.head.lead_at.Statement.{statement}
 use Rattle.bench.proofs.head.lead_at.Tie as tie
 
-returns : tie.Need-returns
-unfolding leading
-returns c = ap leadOf (sym (ap readTold (c .before .value .given .1)) ∙ c .before .before .before .number-at .ensures)
-
-returns-2 : tie.Need-returns-2
-unfolding leading
-returns-2 c = ap leadOf (sym (ap readTold (c .before .at .given .1)) ∙ c .before .before .before .number-at .ensures)
-
 returns-3 : tie.Need-returns-3
 unfolding leading
-returns-3 c = rw (c .number-of .ensures) (ap leadOf (sym (ap readTold (c .before .before .refusal .given .1)) ∙ c .before .before .before .before .number-at .ensures))
+returns-3 c =
+    let found = c .before .before in
+    rw (c .number-of .ensures) (ap leadOf (sym (ap readTold (found .refusal .given .1)) ∙ found .before .before .number-at .ensures))
 
 pub lead-at-spec : {M : Type 1} → statement M
+unfolding leading
 lead-at-spec =
     tie.close
     (tie.spec
@@ -28,6 +22,6 @@ lead-at-spec =
     (λ c. search needs)
     (λ c. search needs)
     (λ c κs. search needs)
-    returns
-    returns-2
+    (λ c. ap leadOf (sym (ap readTold (c .before .value .given .1)) ∙ c .before .before .before .number-at .ensures))
+    (λ c. ap leadOf (sym (ap readTold (c .before .at .given .1)) ∙ c .before .before .before .number-at .ensures))
     returns-3)

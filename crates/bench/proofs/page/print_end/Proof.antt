@@ -1,14 +1,8 @@
 -- What the line's call put into the buffer is printed.
-use Rattle.report.specs.Lines.{endLine}
 use Rattle.bench.proofs.Pages.{print-line}
 use borrow.Author.Needs.{needs}
 use Rattle.bench.proofs.page.print_end.Statement.{statement}
 use Rattle.bench.proofs.page.print_end.Tie as tie
-
-returns : tie.Need-returns
-returns c =
-    print-line _ _ (endLine _ _ _) _ _ _ (c .before .before .before .before .before .end-line .ensures .1 .0) (c .before .before .before .before .before .end-line .ensures .1 .1)
-    (c .before .before .print .ensures)
 
 pub print-end-spec : {M : Type 1} → statement M
 print-end-spec =
@@ -19,4 +13,4 @@ print-end-spec =
     (λ c. search needs)
     (λ c κs. search needs)
     (λ c. search needs)
-    returns)
+    (λ c. search print-line))

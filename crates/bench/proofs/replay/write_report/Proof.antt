@@ -4,19 +4,13 @@ use borrow.Author.Needs.{needs}
 use Rattle.bench.proofs.replay.write_report.Statement.{statement}
 use Rattle.bench.proofs.replay.write_report.Tie as tie
 
-slice-reshare-prefix-write-all : tie.Need-slice-reshare-prefix-write-all
-slice-reshare-prefix-write-all c = print-fits _ _ _ (c .before .before .report .ensures) .0
-
-slice-aggregate-write-all : tie.Need-slice-aggregate-write-all
-slice-aggregate-write-all c = print-fits _ _ _ (c .before .before .before .report .ensures) .1
-
 pub write-report-spec : {M : Type 1} → statement M
 write-report-spec =
     tie.close
     (tie.spec
     (λ c κs. search needs)
-    slice-reshare-prefix-write-all
-    slice-aggregate-write-all
+    (λ c. print-fits _ _ _ (c .before .before .report .ensures) .0)
+    (λ c. print-fits _ _ _ (c .before .before .before .report .ensures) .1)
     (λ c κs. search needs)
     (λ c. search needs)
     (λ c. search needs))

@@ -5,9 +5,6 @@ use borrow.Author.Needs.{needs}
 use Rattle.bench.proofs.run.run.Statement.{statement}
 use Rattle.bench.proofs.run.run.Tie as tie
 
-returns : tie.Need-returns
-returns c = c .before .before .before .before .take-items .ensures ∙ ran-on _ _ _ _ _ _ _ _ (c .before .before .before .before .before .before .before .before .before .before .before .before .start .ensures)
-
 pub run-spec : {M : Type 1} → statement M
 run-spec =
-    tie.close (tie.spec (λ c κs. search needs) (λ c κs. search needs) (λ c. search needs) (λ c. search needs) returns)
+    tie.close (tie.spec (λ c κs. search needs) (λ c κs. search needs) (λ c. search needs) (λ c. search needs) (λ c. search (ran-on, _∙_)))

@@ -1,28 +1,21 @@
 -- A head that is refused is the whole run; else it is run on an array of the part's size, no larger than the one that
 -- is made.
-use mathlib.Core.Path.{sym, ap, _∙_}
+use mathlib.Core.Path.{sym}
+use mathlib.Core.List.{[]}
 use lib.Seq.{length-take-le}
 use Rattle.parts.specs.FigureLaws.{largest}
-use Rattle.bench.specs.Bench.{onPage}
-use Rattle.bench.specs.Stand.{begun}
+use Rattle.bench.specs.Run.{replayed}
 use Rattle.bench.proofs.Runs.{replayed-led, replayed-not, whole}
 use borrow.Author.Needs.{needs}
 use Rattle.bench.proofs.run.run_whole.Statement.{statement}
 use Rattle.bench.proofs.run.run_whole.Tie as tie
 
-returns : tie.Need-returns
-returns c = whole _ _ _ _ _ _ (replayed-not _ _ _ _ _ (c .before .before .before .before .head-of .ensures) (c .before .before .if1 .taken) (c .new .ensures ∙ ap begun (c .before .at-rest .ensures)))
-
-array-borrow-prefix-array : tie.Need-array-borrow-prefix-array
-array-borrow-prefix-array c = rw (c .figure-of .ensures) (largest _)
-
-slice-aggregate-run : tie.Need-slice-aggregate-run
-slice-aggregate-run c = sym (length-take-le _ _ (rw (c .before .figure-of .ensures) (largest _)))
-
 returns-2 : tie.Need-returns-2
 returns-2 c =
-    whole _ _ _ _ _ _
-    (c .before .before .before .run .ensures ∙ ap (onPage _) (replayed-led _ _ _ _ (c .before .before .before .before .before .before .before .before .before .before .head-of .ensures) (c .before .before .before .before .before .before .before .before .if1 .left) (c .before .before .before .before .before .before .before .figure-of .ensures)))
+    let run = c .before .before .before in
+    let size = run .before .before .before .before in
+    let head = size .before .before .before .head-of .ensures in
+    whole _ _ _ _ _ _ (replayed-led _ _ _ _ _ _ head (size .before .if1 .left) (size .figure-of .ensures) (run .run .ensures))
 
 pub run-whole-spec : {M : Type 1} → statement M
 run-whole-spec =
@@ -31,10 +24,10 @@ run-whole-spec =
     (λ c κs. search needs)
     (λ c κs. search needs)
     (λ c κs. search needs)
-    returns
+    (λ c. whole (replayed _ _) _ _ [] _ _ (search replayed-not))
     (λ c κs. search needs)
-    array-borrow-prefix-array
-    slice-aggregate-run
+    (λ c. rw (c .figure-of .ensures) (largest _))
+    (λ c. sym (length-take-le _ _ (rw (c .before .figure-of .ensures) (largest _))))
     (λ c κs. search needs)
     (λ c. search needs)
     returns-2)

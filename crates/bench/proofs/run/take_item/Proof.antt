@@ -1,9 +1,9 @@
 -- After k events the bench is where the first k events of the item lead, so the others lead on from there; a refused
 -- one ends it.
-use mathlib.Core.Path.{_≡_, refl, _∙_}
+use mathlib.Core.Path.{_≡_, _∙_}
 use Prim.Native.Nat.{_-_}
 use lib.ListN.{length, drop}
-use Rattle.report.specs.Items.{itemEvents}
+use Rattle.trace.specs.Items.{itemEvents}
 use Rattle.bench.specs.Bench.{benchOf, onPage}
 use Rattle.bench.specs.Page.{pageOf}
 use Rattle.bench.specs.Run.{afterEvents, afterItem}
@@ -21,31 +21,30 @@ Inv-loop array₀ shown₀ out₀ item events turn₀ k₀ array shown out turn 
 abbrev μ-loop : tie.MeasureT-loop
 μ-loop array₀ shown₀ out₀ item events turn₀ k₀ array shown out turn k = events - k
 
-loop-holds : tie.Need-loop-holds Inv-loop μ-loop
-loop-holds c = (refl, refl, refl)
-
-returns : tie.Need-returns Inv-loop μ-loop
-unfolding afterItem
-returns c = events-end (drop (c .before .before .before .loop .k) (itemEvents _)) _ _ _ _ (c .if1 .taken) ∙ c .before .before .before .loop .inv .2
-
 loop-again : tie.Need-loop-again Inv-loop μ-loop
-loop-again c = (search needs, search needs, events-on _ _ _ _ _ _ _ _ _ _ _ _ (c .before .before .before .before .before .before .before .before .before .before .before .before .before .events-of .ensures) (c .before .before .before .before .before .before .before .before .before .before .before .loop-test .taken) (c .before .before .before .before .before .event-of .ensures) (c .before .before .before .before .before .before .before .before .before .if1 .left) (c .before .before .before .before .take-event .ensures) ∙ c .before .before .before .before .before .before .before .before .before .before .before .before .loop .inv .2)
-
-returns-2 : tie.Need-returns-2 Inv-loop μ-loop
-unfolding afterItem
-returns-2 c = events-over _ _ _ _ _ _ _ (c .before .before .events-of .ensures) (c .loop-test .left) ∙ c .before .loop .inv .2
+loop-again c =
+    let taken = c .before .before .before .before in
+    let on = taken .before .before .before .before .before in
+    let test = on .before .before in (
+      search needs,
+      search needs,
+      events-on _ _ _ _ _ _ _ _ _ _ _ _ (test .before .before .events-of .ensures) (test .loop-test .taken)
+          (taken .before .event-of .ensures) (on .if1 .left) (taken .take-event .ensures)
+          ∙ test .before .loop .inv .2,
+    )
 
 pub take-item-spec : {M : Type 1} → statement M
+unfolding afterItem
 take-item-spec =
     tie.close
     (tie.spec
     Inv-loop
     μ-loop
     (λ c κs. search needs)
-    loop-holds
     (λ c. search needs)
     (λ c. search needs)
-    returns
+    (λ c. search needs)
+    (λ c. search (events-end, _∙_))
     (λ c κs. search needs)
     (λ c κs. search needs)
     (λ c. search needs)
@@ -53,4 +52,4 @@ take-item-spec =
     loop-again
     (λ c. search needs)
     (λ c. search needs)
-    returns-2)
+    (λ c. search (events-over, _∙_)))

@@ -4,8 +4,6 @@ use borrow.Author.Needs.{needs}
 use Rattle.bench.proofs.text.print_last.Statement.{statement}
 use Rattle.bench.proofs.text.print_last.Tie as tie
 
-returns : tie.Need-returns
-returns c = print-then _ _ _ _ _ (c .before .before .before .before .before .before .print-open .ensures) (c .before .before .print-end .ensures)
-
 pub print-last-spec : {M : Type 1} → statement M
-print-last-spec = tie.close (tie.spec (λ c κs. search needs) (λ c κs. search needs) (λ c. search needs) returns)
+print-last-spec =
+    tie.close (tie.spec (λ c κs. search needs) (λ c κs. search needs) (λ c. search needs) (λ c. search print-then))

@@ -5,8 +5,6 @@ use borrow.Author.Needs.{needs}
 use Rattle.bench.proofs.text.report.Statement.{statement}
 use Rattle.bench.proofs.text.report.Tie as tie
 
-returns : tie.Need-returns
-returns c = report-whole _ _ _ _ _ _ _ refl (c .before .before .before .before .before .before .before .run-whole .ensures .0) (c .before .before .before .before .before .before .before .run-whole .ensures .1 .0) (c .before .before .before .before .before .before .before .run-whole .ensures .1 .1 .0) (c .before .before .before .before .before .before .before .run-whole .ensures .1 .1 .1) (c .before .before .print-last .ensures)
-
 pub report-spec : {M : Type 1} → statement M
-report-spec = tie.close (tie.spec (λ c κs. search needs) (λ c κs. search needs) (λ c. search needs) returns)
+report-spec =
+    tie.close (tie.spec (λ c κs. search needs) (λ c κs. search needs) (λ c. search needs) (λ c. search (report-whole, refl)))

@@ -5,14 +5,13 @@ use borrow.Author.Needs.{needs}
 use Rattle.report.proofs.lines.put_code.Statement.{statement}
 use Rattle.report.proofs.lines.put_code.Tie as tie
 
-returns : tie.Need-returns
-unfolding codeText
-returns c = (c .put .ensures .ends, rw (lt-ltb _ _ (c .before .before .before .if1 .taken)) (c .put .ensures))
-
-returns-2 : tie.Need-returns-2
-unfolding codeText
-returns-2 c = (c .put-hex .ensures .0, rw (le-ltb _ _ (c .before .before .if1 .left)) (c .put-hex .ensures .1))
-
 pub put-code-spec : {M : Type 1} → statement M
+unfolding codeText
 put-code-spec =
-    tie.close (tie.spec (λ c. search needs) (λ c κs. search needs) returns (λ c κs. search needs) returns-2)
+    tie.close
+    (tie.spec
+    (λ c. search needs)
+    (λ c κs. search needs)
+    (λ c. (c .put .ensures .ends, rw (lt-ltb _ _ (c .before .before .before .if1 .taken)) (c .put .ensures)))
+    (λ c κs. search needs)
+    (λ c. (c .put-hex .ensures .0, rw (le-ltb _ _ (c .before .before .if1 .left)) (c .put-hex .ensures .1))))

@@ -5,8 +5,6 @@ use borrow.Author.Needs.{needs}
 use Rattle.report.proofs.lines.put_numbered.Statement.{statement}
 use Rattle.report.proofs.lines.put_numbered.Tie as tie
 
-returns : tie.Need-returns
-returns c = (omega arith, c .before .before .put .ensures then c .put-decimal .ensures .1)
-
 pub put-numbered-spec : {M : Type 1} → statement M
-put-numbered-spec = tie.close (tie.spec (λ c κs. search needs) (λ c κs. search needs) returns)
+put-numbered-spec =
+    tie.close (tie.spec (λ c κs. search needs) (λ c κs. search needs) (λ c. (omega arith, search _then_)))

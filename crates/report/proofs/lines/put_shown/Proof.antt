@@ -9,38 +9,38 @@ use borrow.Author.Needs.{needs}
 use Rattle.report.proofs.lines.put_shown.Statement.{statement}
 use Rattle.report.proofs.lines.put_shown.Tie as tie
 
-returns : tie.Need-returns
-unfolding shownText
-returns c = (omega arith, rw (eq-eqb _ _ (c .before .before .before .if1 .taken)) (c .put .ensures))
-
-slice-aggregate-put-hexes : tie.Need-slice-aggregate-put-hexes
-slice-aggregate-put-hexes c = sym (length-take-le _ _ (omega arith))
-
 put-hexes-requires : tie.Need-put-hexes-requires
-put-hexes-requires c κs = omega (arith, length-take-le (c .before .before .before .before .before .args .whole) (c .before .before .before .before .before .args .shown .now) (omega arith))
+put-hexes-requires c κs =
+    let args = c .before .before .before .before .before .args in
+    omega (arith, length-take-le (args .whole) (args .shown .now) (omega arith))
 
 returns-2 : tie.Need-returns-2
 unfolding shownText
-returns-2 c = (
-  omega (arith, length-take-le (c .before .before .before .before .before .before .args .whole) (c .before .before .before .before .before .before .args .shown .now) (omega arith)),
-  rw (ne-eqb _ _ (c .before .before .before .before .if1 .left), le-leb (c .before .before .before .before .before .before .args .whole) 64 (omega (arith, c .before .before .before .if2 .taken))) (c .put-hexes .ensures .1),
-)
+returns-2 c =
+    let test = c .before .before .before in
+    let args = test .before .before .before .args in (
+      omega (arith, length-take-le (args .whole) (args .shown .now) (omega arith)),
+      rw (ne-eqb _ _ (test .before .if1 .left), le-leb _ _ (test .if2 .taken)) (c .put-hexes .ensures .1),
+    )
 
 returns-3 : tie.Need-returns-3
 unfolding shownText
-returns-3 c = (
-  omega arith,
-  rw (ne-eqb _ _ (c .before .before .before .before .before .before .if1 .left), lt-leb (c .before .before .before .before .before .before .before .before .args .whole) 64 (omega (arith, c .before .before .before .before .before .if2 .left))) (c .before .before .before .put-hexes2 .ensures .1 then c .put2 .ensures),
-)
+returns-3 c =
+    let test = c .before .before .before .before .before in (
+      omega arith,
+      rw (ne-eqb _ _ (test .before .if1 .left), lt-leb _ _ (test .if2 .left))
+          (c .before .before .before .put-hexes2 .ensures .1 then c .put2 .ensures),
+    )
 
 pub put-shown-spec : {M : Type 1} → statement M
+unfolding shownText
 put-shown-spec =
     tie.close
     (tie.spec
     (λ c. search needs)
     (λ c κs. search needs)
-    returns
-    slice-aggregate-put-hexes
+    (λ c. (omega arith, rw (eq-eqb _ _ (c .before .before .before .if1 .taken)) (c .put .ensures)))
+    (λ c. sym (length-take-le _ _ (omega arith)))
     put-hexes-requires
     returns-2
     (λ c κs. search needs)

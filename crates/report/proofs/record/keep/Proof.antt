@@ -4,11 +4,6 @@ use borrow.Author.Needs.{needs}
 use Rattle.report.proofs.record.keep.Statement.{statement}
 use Rattle.report.proofs.record.keep.Tie as tie
 
-returns : tie.Need-returns
-returns c = simp (lt-ltb _ _ (c .if1 .taken))
-
-returns-2 : tie.Need-returns-2
-returns-2 c = simp (le-ltb _ _ (c .if1 .left))
-
 pub keep-spec : {M : Type 1} → statement M
-keep-spec = tie.close (tie.spec (λ c. search needs) returns returns-2)
+keep-spec =
+    tie.close (tie.spec (λ c. search needs) (λ c. simp (lt-ltb _ _ (c .if1 .taken))) (λ c. simp (le-ltb _ _ (c .if1 .left))))

@@ -5,9 +5,6 @@ use borrow.Author.Needs.{needs}
 use Rattle.report.proofs.text.capital.Statement.{statement}
 use Rattle.report.proofs.text.capital.Tie as tie
 
-returns : tie.Need-returns
-unfolding capitals
-returns c = refl
-
 pub capital-spec : {M : Type 1} → statement M
-capital-spec = tie.close (tie.spec (λ c. search needs) returns)
+unfolding capitals
+capital-spec = tie.close (tie.spec (λ c. search needs) (λ c. refl))

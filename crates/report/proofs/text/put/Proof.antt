@@ -16,34 +16,19 @@ Inv-loop out₀ at text i₀ out i = (i ≤ length text) × Puts out₀ at (take
 abbrev μ-loop : tie.MeasureT-loop
 μ-loop out₀ at text i₀ out i = length text - i
 
-loop-holds : tie.Need-loop-holds Inv-loop μ-loop
-loop-holds c = (zero-le, rw (add-zero (c .args .at)) (none _ _))
-
-slice-write-out : tie.Need-slice-write-out Inv-loop μ-loop
-slice-write-out c = omega (arith, kept (c .before .before .loop .inv .1))
-
-loop-again : tie.Need-loop-again Inv-loop μ-loop
-loop-again c = (omega arith, more _ (c .before .loop-test .taken) (c .before .before .loop .inv .1))
-
-same-length : tie.Need-same-length Inv-loop μ-loop
-same-length c = kept (c .before .loop .inv .1)
-
-returns : tie.Need-returns Inv-loop μ-loop
-returns c = rw (take-all _ _ (c .loop-test .left)) at (c .before .loop .inv .1)
-
 pub put-spec : {M : Type 1} → statement M
 put-spec =
     tie.close
     (tie.spec
     Inv-loop
     μ-loop
-    loop-holds
+    (λ c. (zero-le, rw (add-zero (c .args .at)) (none _ _)))
     (λ c. search needs)
     (λ c. search needs)
-    slice-write-out
+    (λ c. omega (arith, kept (c .before .before .loop .inv .1)))
     (λ c. search needs)
     (λ c. search needs)
-    loop-again
+    (λ c. (omega arith, more _ (c .before .loop-test .taken) (c .before .before .loop .inv .1)))
     (λ c. search needs)
-    same-length
-    returns)
+    (λ c. kept (c .before .loop .inv .1))
+    (λ c. rw (take-all _ _ (c .loop-test .left)) at (c .before .loop .inv .1)))

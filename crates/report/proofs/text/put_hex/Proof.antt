@@ -7,18 +7,13 @@ use borrow.Author.Needs.{needs}
 use Rattle.report.proofs.text.put_hex.Statement.{statement}
 use Rattle.report.proofs.text.put_hex.Tie as tie
 
-cast-capital-2 : tie.Need-cast-capital-2
-cast-capital-2 c = omega (arith, and-le-r (c .before .args .byte) 15)
-
-capital-requires-2 : tie.Need-capital-requires-2
-capital-requires-2 c κs = omega (arith, and-le-r (c .before .args .byte) 15)
-
 returns : tie.Need-returns
 unfolding hex
-returns c = (
-  omega arith,
-  same (simp (c .before .before .before .capital2 .ensures, c .before .before .before .before .capital .ensures, and-mask (c .before .before .before .before .before .args .byte) 4)) (c .put .ensures),
-)
+returns c =
+    let low = c .before .before .before in (
+      omega arith,
+      same (simp (low .capital2 .ensures, low .before .capital .ensures, and-mask (low .before .before .args .byte) 4)) (c .put .ensures),
+    )
 
 pub put-hex-spec : {M : Type 1} → statement M
 put-hex-spec =
@@ -26,8 +21,8 @@ put-hex-spec =
     (tie.spec
     (λ c. search needs)
     (λ c κs. search needs)
-    cast-capital-2
-    capital-requires-2
+    (λ c. omega (arith, and-le-r (c .before .args .byte) 15))
+    (λ c κs. omega (arith, and-le-r (c .before .args .byte) 15))
     (λ c. search needs)
     (λ c κs. search needs)
     returns)

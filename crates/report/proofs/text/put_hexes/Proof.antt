@@ -17,18 +17,13 @@ Inv-loop out₀ at bytes next₀ i₀ out next i =
 abbrev μ-loop : tie.MeasureT-loop
 μ-loop out₀ at bytes next₀ i₀ out next i = length bytes - i
 
-loop-holds : tie.Need-loop-holds Inv-loop μ-loop
-loop-holds c = (zero-le, omega arith, none _ _)
-
 loop-again : tie.Need-loop-again Inv-loop μ-loop
-loop-again c = (
-  omega arith,
-  omega arith,
-  same (sym (hexes-more _ (c .before .before .before .before .loop .i) (omega arith))) (c .before .before .before .before .loop .inv .2 then c .put-hex .ensures .1),
-)
-
-returns : tie.Need-returns Inv-loop μ-loop
-returns c = (omega arith, rw (take-all _ _ (c .loop-test .left)) at (c .before .loop .inv .2))
+loop-again c =
+    let loop = c .before .before .before .before .loop in (
+      omega arith,
+      omega arith,
+      same (sym (hexes-more _ (loop .i) (omega arith))) (loop .inv .2 then c .put-hex .ensures .1),
+    )
 
 pub put-hexes-spec : {M : Type 1} → statement M
 put-hexes-spec =
@@ -36,10 +31,10 @@ put-hexes-spec =
     (tie.spec
     Inv-loop
     μ-loop
-    loop-holds
+    (λ c. (zero-le, omega arith, none _ _))
     (λ c. search needs)
     (λ c κs. search needs)
     (λ c. search needs)
     (λ c. search needs)
     loop-again
-    returns)
+    (λ c. (omega arith, rw (take-all _ _ (c .loop-test .left)) at (c .before .loop .inv .2))))

@@ -1,4 +1,6 @@
--- `scan` finds what is defined: past the end and with no room left nothing; a byte without the top bit is the number; and behind one with it the number of one group fewer is extended by its group. The measure is the room. Nine groups are 63 bits, so the shift loses none.
+-- `scan` finds what is defined: past the end and with no room left nothing; a byte without the top bit is the number;
+-- and behind one with it the number of one group fewer is extended by its group. The measure is the room. Nine groups
+-- are 63 bits, so the shift loses none.
 use borrow.Author.Needs.{needs}
 use borrow.Author.Tests.{eq-eqb, ne-eqb}
 use borrow.Fn.Kinds.{In}
@@ -36,38 +38,17 @@ scan-returns t c =
 scan-returns-2 : (t : ℕ) → scan-lts.Need-returns-2 (scan-below t, scan.Post) (scan-at t) scan.Post
 scan-returns-2 t c = sym (scanned-past _ _ _ (c .if2 .taken))
 
-scan-shared-slice-read-b :
-    (t : ℕ) → scan-lts.Need-shared-slice-read-b (scan-below t, scan.Post) (scan-at t) scan.Post
-scan-shared-slice-read-b t c = search needs
-
 scan-cast-group :
     (t : ℕ) → scan-lts.Need-cast-group (scan-below t, scan.Post) (scan-at t) scan.Post
 scan-cast-group t c =
     let a = c .before .before .before .before .args in
     record { fits = omega (arith, and-le-r (getD (a .s .now) (a .at) 0) 127) }
 
-scan-add-after : (t : ℕ) → scan-lts.Need-add-after (scan-below t, scan.Post) (scan-at t) scan.Post
-scan-add-after t c = search needs
-
 scan-returns-3 : (t : ℕ) → scan-lts.Need-returns-3 (scan-below t, scan.Post) (scan-at t) scan.Post
 scan-returns-3 t c =
     let a = c .before .before .before .before .before .args in
     let inside = c .before .before .if2 .left in
     sym (scanned-last (a .s .now) (a .at) inside (a .room) (search needs) (c .if3 .taken) ∙ ap (λ (n : ℕ). Whole n (a .at + 1)) (sym (low-group (getD (a .s .now) (a .at) 0) ∙ mod-eq-of-lt (c .if3 .taken))))
-
-scan-sub-scan : (t : ℕ) → scan-lts.Need-sub-scan (scan-below t, scan.Post) (scan-at t) scan.Post
-scan-sub-scan t c = search needs
-
-scan-scan-requires :
-    (t : ℕ) → scan-lts.Need-scan-requires (scan-below t, scan.Post) (scan-at t) scan.Post
-scan-scan-requires t c κs = search needs
-
-scan-enum-told : (t : ℕ) → scan-lts.Need-enum-told (scan-below t, scan.Post) (scan-at t) scan.Post
-scan-enum-told t c = search needs
-
-scan-enum-known-value :
-    (t : ℕ) → scan-lts.Need-enum-known-value (scan-below t, scan.Post) (scan-at t) scan.Post
-scan-enum-known-value t c = search needs
 
 -- behind a byte with the top bit set
 behind :
@@ -105,14 +86,14 @@ pub +scan-spec : {M : Type 1} → statement M
     scan.Post
     (scan-returns t)
     (scan-returns-2 t)
-    (scan-shared-slice-read-b t)
+    (λ c. search needs)
     (scan-cast-group t)
-    (scan-add-after t)
+    (λ c. search needs)
     (scan-returns-3 t)
-    (scan-sub-scan t)
-    (scan-scan-requires t)
-    (scan-enum-told t)
-    (scan-enum-known-value t)
+    (λ c. search needs)
+    (λ c κs. search needs)
+    (λ c. search needs)
+    (λ c. search needs)
     (scan-returns-4 t)
     (scan-returns-5 t)
     (scan-returns-6 t)

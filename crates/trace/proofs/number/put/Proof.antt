@@ -1,4 +1,6 @@
--- `put` stores the form of a number: at each turn what is stored already and the form of what is left, from here on, are the form of the whole from the start. A turn stores the low group with the top bit set, and the last store is of the one group that is left.
+-- `put` stores the form of a number: at each turn what is stored already and the form of what is left, from here on,
+-- are the form of the whole from the start. A turn stores the low group with the top bit set, and the last store is of
+-- the one group that is left.
 use lib.Bits.{and-le-r}
 use lib.ListN.{length, length-set}
 use lib.Seq.{sets}
@@ -19,21 +21,6 @@ Inv-loop s₀ at value next₀ rest₀ s next rest =
 abbrev μ-loop : tie.MeasureT-loop
 μ-loop s₀ at value next₀ rest₀ s next rest = rest
 
-loop-holds : tie.Need-loop-holds Inv-loop μ-loop
-loop-holds c = (refl, refl, refl)
-
-cast-s : tie.Need-cast-s Inv-loop μ-loop
-cast-s c = record { fits = omega (arith, and-le-r (c .before .loop .rest) 127) }
-
-slice-write-s : tie.Need-slice-write-s Inv-loop μ-loop
-slice-write-s c = omega (arith, form-length (c .before .loop .rest) (c .loop-test .taken))
-
-add-next : tie.Need-add-next Inv-loop μ-loop
-add-next c = omega (arith, form-length (c .before .loop .rest) (c .loop-test .taken))
-
-loop-less : tie.Need-loop-less Inv-loop μ-loop
-loop-less c = omega arith
-
 loop-again : tie.Need-loop-again Inv-loop μ-loop
 loop-again c =
     let l = c .before .loop in (
@@ -46,18 +33,6 @@ loop-again c =
 last-group : (c : tie.After-loop Inv-loop μ-loop) → length (form (c .before .loop .rest)) ≡ 1
 last-group c = ap length (form-one (c .before .loop .rest) (c .loop-test .left))
 
-cast-s-2 : tie.Need-cast-s-2 Inv-loop μ-loop
-cast-s-2 c = omega arith
-
-slice-write-s-2 : tie.Need-slice-write-s-2 Inv-loop μ-loop
-slice-write-s-2 c = omega (arith, last-group c)
-
-add-result : tie.Need-add-result Inv-loop μ-loop
-add-result c = omega (arith, last-group c)
-
-same-length : tie.Need-same-length Inv-loop μ-loop
-same-length c = simp length-set (c .before .loop .inv .2)
-
 returns : tie.Need-returns Inv-loop μ-loop
 returns c =
     let l = c .before .loop in
@@ -69,14 +44,14 @@ put-spec =
     (tie.spec
     Inv-loop
     μ-loop
-    loop-holds
-    cast-s
-    slice-write-s
-    add-next
-    loop-less
+    (λ c. (refl, refl, refl))
+    (λ c. record { fits = omega (arith, and-le-r (c .before .loop .rest) 127) })
+    (λ c. omega (arith, form-length (c .before .loop .rest) (c .loop-test .taken)))
+    (λ c. omega (arith, form-length (c .before .loop .rest) (c .loop-test .taken)))
+    (λ c. omega arith)
     loop-again
-    cast-s-2
-    slice-write-s-2
-    add-result
-    same-length
+    (λ c. omega arith)
+    (λ c. omega (arith, last-group c))
+    (λ c. omega (arith, last-group c))
+    (λ c. simp length-set (c .before .loop .inv .2))
     returns)

@@ -10,24 +10,17 @@ use Rattle.trace.specs.ScanLaws.{sized, reading-beyond, reading-end, rea
 use Rattle.trace.proofs.number.read_at.Statement.{statement}
 use Rattle.trace.proofs.number.read_at.Tie as tie
 
-returns : tie.Need-returns
-returns c = ap readTold (c .unread .ensures) ∙ sym (reading-beyond _ _ (c .before .if1 .taken))
-
-returns-2 : tie.Need-returns-2
-returns-2 c = let a = c .before .before .before .args in sym (reading-end (a .s .now) (a .at) (omega arith))
-
 -- before the end: the answer by what `scan` found
-inside : (c : tie.After-scan) {found : Shape} → c .scan .result ≡ found → let a = c .before .before .before .before .args in sized (a .at) found ≡ reading (a .s .now) (a .at)
+inside : (c : tie.After-scan) {found : Shape} → c .scan .result ≡ found
+    → let a = c .before .before .before .before .args in sized (a .at) found ≡ reading (a .s .now) (a .at)
 inside c e =
     let a = c .before .before .before .before .args in
     ap (sized (a .at)) (sym e ∙ c .scan .ensures) ∙ sym (reading-inside (a .s .now) (a .at) (omega arith))
 
-returns-3 : tie.Need-returns-3
-returns-3 c = ap readTold (c .unread2 .ensures) ∙ inside (c .before .before .before) (c .before .enum-told .given .1)
-
 returns-4 : tie.Need-returns-4
 returns-4 c =
-    ap readTold (c .unread3 .ensures) ∙ simp (lt-ltb _ _ (c .before .if3 .taken)) at (inside (c .before .before .before .before .before) (c .before .before .before .value .given .1))
+    let got = c .before .before .before in
+    ap readTold (c .unread3 .ensures) ∙ simp (lt-ltb _ _ (c .before .if3 .taken)) at (inside (got .before .before) (got .value .given .1))
 
 returns-5 : tie.Need-returns-5
 returns-5 c =
@@ -38,14 +31,14 @@ read-at-spec =
     tie.close
     (tie.spec
     (λ c κs. search needs)
-    returns
+    (λ c. ap readTold (c .unread .ensures) ∙ sym (reading-beyond _ _ (c .before .if1 .taken)))
     (λ c. search needs)
-    returns-2
+    (λ c. let a = c .before .before .before .args in sym (reading-end (a .s .now) (a .at) (omega arith)))
     (λ c κs. search needs)
     (λ c. search needs)
     (λ c κs. search needs)
     (λ c. search needs)
     (λ c κs. search needs)
-    returns-3
+    (λ c. ap readTold (c .unread2 .ensures) ∙ inside (c .before .before .before) (c .before .enum-told .given .1))
     returns-4
     returns-5)

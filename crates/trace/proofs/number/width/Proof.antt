@@ -1,4 +1,5 @@
--- `width` counts the groups of a number: at each turn those counted and the form of what is left make one more than the form of the whole. Ten groups hold a u64, so the count does not wrap.
+-- `width` counts the groups of a number: at each turn those counted and the form of what is left make one more than the
+-- form of the whole. Ten groups hold a u64, so the count does not wrap.
 use lib.ListN.{length}
 use mathlib.Core.Path.{_≡_, ap}
 use native.Mathlib.Omega.{arith}
@@ -14,22 +15,19 @@ Inv-loop value n₀ left₀ n left = n + length (form left) ≡ length (form val
 abbrev μ-loop : tie.MeasureT-loop
 μ-loop value n₀ left₀ n left = left
 
-loop-holds : tie.Need-loop-holds Inv-loop μ-loop
-loop-holds c = omega arith
-
 add-n : tie.Need-add-n Inv-loop μ-loop
 add-n c =
     let v = c .before .before .args .value in
     omega (arith, form-length (c .before .loop .left) (c .loop-test .taken), few (form-spells 9 v (omega arith)))
 
-loop-less : tie.Need-loop-less Inv-loop μ-loop
-loop-less c = omega arith
-
-loop-again : tie.Need-loop-again Inv-loop μ-loop
-loop-again c = omega (arith, form-length (c .before .loop .left) (c .loop-test .taken))
-
-returns : tie.Need-returns Inv-loop μ-loop
-returns c = omega (arith, ap length (form-one (c .before .loop .left) (c .loop-test .left)))
-
 pub width-spec : {M : Type 1} → statement M
-width-spec = tie.close (tie.spec Inv-loop μ-loop loop-holds add-n loop-less loop-again returns)
+width-spec =
+    tie.close
+    (tie.spec
+    Inv-loop
+    μ-loop
+    (λ c. omega arith)
+    add-n
+    (λ c. omega arith)
+    (λ c. omega (arith, form-length (c .before .loop .left) (c .loop-test .taken)))
+    (λ c. omega (arith, ap length (form-one (c .before .loop .left) (c .loop-test .left)))))

@@ -6,11 +6,19 @@ use Rattle.bench.proofs.stand.Stand.after.Tie as tie
 
 returns : tie.Need-returns
 unfolding after
-returns c = (simp (c .new .ensures, c .before .count .ensures, ← c .before .before .before .is-open2 .ensures, ← c .before .before .before .before .is-open .ensures, c .before .before .if1 .taken), c .before .before .before .before .before .before .clocked .ensures .1)
+returns c =
+    let test = c .before .before in (
+      simp (c .new .ensures, c .before .count .ensures, ← test .before .is-open2 .ensures, ← test .before .before .is-open .ensures, test .if1 .taken),
+      search needs,
+    )
 
 returns-2 : tie.Need-returns-2
 unfolding after
-returns-2 c = (simp (c .before .before .before .note .ensures, c .before .before .before .before .clocked .ensures .0, ← c .before .is-open2 .ensures, ← c .before .before .is-open .ensures, c .if1 .left), c .before .before .before .before .clocked .ensures .1)
+returns-2 c =
+    let note = c .before .before .before in (
+      simp (note .note .ensures, note .before .clocked .ensures .0, ← c .before .is-open2 .ensures, ← c .before .before .is-open .ensures, c .if1 .left),
+      search needs,
+    )
 
 pub after-spec : {M : Type 1} → statement M
 after-spec =

@@ -1,17 +1,24 @@
 -- A rise that is seen goes into the record, with SI and SO as they stood before it.
-use Rattle.bench.specs.Stand.{shownBy}
-use Rattle.bench.specs.Stand.{clockedBy}
+use Rattle.bench.specs.Stand.{shownBy, clockedBy}
 use borrow.Author.Needs.{needs}
 use Rattle.bench.proofs.stand.Stand.clocked.Statement.{statement}
 use Rattle.bench.proofs.stand.Stand.clocked.Tie as tie
 
 returns : tie.Need-returns
 unfolding clockedBy shownBy
-returns c = (simp (c .rise .ensures .0, c .before .before .so .ensures, ← c .before .before .before .before .sees-rise .ensures, c .before .before .before .if1 .taken), simp (c .rise .ensures .1, c .before .before .so .ensures, ← c .before .before .before .before .sees-rise .ensures, c .before .before .before .if1 .taken))
-
-returns-2 : tie.Need-returns-2
-unfolding clockedBy shownBy
-returns-2 c = (simp (← c .before .sees-rise .ensures, c .if1 .left), simp (← c .before .sees-rise .ensures, c .if1 .left))
+returns c =
+    let test = c .before .before .before in
+    let so = c .before .before .so .ensures in
+    let seen = test .before .sees-rise .ensures in
+    (simp (c .rise .ensures .0, so, ← seen, test .if1 .taken), simp (c .rise .ensures .1, so, ← seen, test .if1 .taken))
 
 pub clocked-spec : {M : Type 1} → statement M
-clocked-spec = tie.close (tie.spec (λ c κs. search needs) (λ c κs. search needs) (λ c κs. search needs) returns returns-2)
+unfolding clockedBy shownBy
+clocked-spec =
+    tie.close
+    (tie.spec
+    (λ c κs. search needs)
+    (λ c κs. search needs)
+    (λ c κs. search needs)
+    returns
+    (λ c. (simp (← c .before .sees-rise .ensures, c .if1 .left), simp (← c .before .sees-rise .ensures, c .if1 .left))))

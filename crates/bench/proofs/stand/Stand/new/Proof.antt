@@ -3,8 +3,5 @@ use borrow.Author.Needs.{needs}
 use Rattle.bench.proofs.stand.Stand.new.Statement.{statement}
 use Rattle.bench.proofs.stand.Stand.new.Tie as tie
 
-returns : tie.Need-returns
-returns c = simp (c .new .ensures)
-
 pub new-spec : {M : Type 1} → statement M
-new-spec = tie.close (tie.spec (λ c κs. search needs) returns)
+new-spec = tie.close (tie.spec (λ c κs. search needs) (λ c. simp (c .new .ensures)))

@@ -1,53 +1,33 @@
--- Case by case: only a stored note counts.
+-- Only a stored note counts; of each other the record is left as it was.
+use mathlib.Core.Path.{_≡_, refl}
+use mathlib.Core.List.{[], _∷_}
+use denote.Enum.Declared.{tagOf}
+use types.Run.{OneOf, miss}
+use Rattle.select.proofs.notes.Note.{the-type}
+use Rattle.select.specs.declared.notes.Note.{Note}
+use Rattle.select.specs.declared.notes.Note.the-variants.{Nothing, Latch, Stored, HeldBack, KeptSet, KeptHeldBack, PowerLost}
 use Rattle.report.specs.Record.{noted}
+use Rattle.report.specs.declared.record.Record.{Record}
 use borrow.Author.Needs.{needs}
 use Rattle.report.proofs.record.Record.note.Statement.{statement}
 use Rattle.report.proofs.record.Record.note.Tie as tie
 
-returns : tie.Need-returns
+other : (r : Record) (note : Note) → OneOf (0 ∷ 1 ∷ 3 ∷ 4 ∷ 5 ∷ 6 ∷ []) (tagOf the-type note) → r ≡ noted r note
 unfolding noted
-returns c = simp (c .enum-told .given .1)
-
-returns-2 : tie.Need-returns-2
-unfolding noted
-returns-2 c = simp (c .enum-told2 .given .1)
-
-returns-3 : tie.Need-returns-3
-unfolding noted
-returns-3 c = simp (c .count .ensures, c .before .enum-told3 .given .1)
-
-returns-4 : tie.Need-returns-4
-unfolding noted
-returns-4 c = simp (c .enum-told4 .given .1)
-
-returns-5 : tie.Need-returns-5
-unfolding noted
-returns-5 c = simp (c .enum-told5 .given .1)
-
-returns-6 : tie.Need-returns-6
-unfolding noted
-returns-6 c = simp (c .enum-told6 .given .1)
-
-returns-7 : tie.Need-returns-7
-unfolding noted
-returns-7 c = simp (c .enum-told7 .given .1)
+other r Nothing h = refl
+other r (Latch on) h = refl
+other r (Stored at byte) h = absurd (miss (0 ∷ 1 ∷ 3 ∷ 4 ∷ 5 ∷ 6 ∷ []) 2 tt h)
+other r (HeldBack at reason) h = refl
+other r (KeptSet kept) h = refl
+other r (KeptHeldBack reason) h = refl
+other r PowerLost h = refl
 
 pub note-spec : {M : Type 1} → statement M
+unfolding noted
 note-spec =
     tie.close
     (tie.spec
     (λ c. search needs)
-    (λ c. search needs)
-    (λ c. search needs)
     (λ c κs. search needs)
-    (λ c. search needs)
-    (λ c. search needs)
-    (λ c. search needs)
-    (λ c. search needs)
-    returns
-    returns-2
-    returns-3
-    returns-4
-    returns-5
-    returns-6
-    returns-7)
+    (λ c. simp (c .count .ensures, c .before .enum-told .given .1))
+    (λ c. other _ (c .before .args .note) (c .match .keys2)))

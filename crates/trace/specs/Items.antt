@@ -3,8 +3,9 @@ use Prim.Native.Nat.{ℕ, _-_}
 use mathlib.Core.List.{List, [], _∷_}
 use lib.Dec.{ltb}
 use mathlib.Core.Bool.{cond}
-use Rattle.stages.specs.Clocked.{clocked}
+use Rattle.trace.specs.Clocked.{clocked}
+use Rattle.trace.specs.Figures.{firstByte}
 
 -- "0 to 11 is an event; 12 to 267 is a data byte, the number less 12"
 unfoldable pub itemEvents : ℕ → List ℕ
-itemEvents n = cond (ltb n 12) (n ∷ []) (clocked (n - 12))
+itemEvents n = cond (ltb n firstByte) (n ∷ []) (clocked (n - firstByte))

@@ -1,10 +1,7 @@
 -- A byte as the events that clock it in. Assumes nothing.
-use Prim.Native.Nat.{ℕ, zero, suc, _+_, _/_, _%_, _^_}
+use Prim.Native.Nat.{ℕ, zero, suc, _+_}
 use mathlib.Core.List.{List, [], _∷_, _++_}
-
--- bit number i of a byte
-abbrev pub bitAt : ℕ → ℕ → ℕ
-bitAt byte i = byte / 2 ^ i % 2
+use Rattle.parts.specs.Bits.{bitAt}
 
 -- "SI, SCK up, SCK down": event 4 or 5 by the bit, then 3, then 2
 abbrev pub pulse : ℕ → List ℕ

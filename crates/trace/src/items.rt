@@ -2,15 +2,18 @@
 ghost use mathlib.Core.Path.{_≡_};
 ghost use Prim.Native.Nat.{_<_};
 ghost use lib.ListN.{getD, length};
-ghost use Rattle.report.specs.Items.{itemEvents};
-ghost use Rattle.stages.specs.Clocked.{clocked};
+ghost use Rattle.trace.specs.Items.{itemEvents};
+ghost use Rattle.trace.specs.Clocked.{clocked};
+ghost use Rattle.trace.specs.Figures.{byteEvents};
 
-// The events of a data byte: eight times SI, SCK up, SCK down.
-const CLOCKED: u64 = 24;
+// The first number that is a data byte, and the events of one. `specs/Figures.antt` has them for the definitions.
+const FIRST_BYTE: u64 = 12;
+
+const BYTE_EVENTS: u64 = 24;
 
 // Event number `k` of a data byte. Bit 7 is sent first.
 fn data_event(byte: u64, k: u64) -> u64
-    requires { ⌜ k < 24 ⌝ }
+    requires { ⌜ k < byteEvents ⌝ }
     ensures { λ r. ⌜ r ≡ getD (clocked byte) k 0 ⌝ }
 {
     match k % 3 {
@@ -24,7 +27,7 @@ fn data_event(byte: u64, k: u64) -> u64
 pub fn events_of(item: u64) -> u64
     ensures { λ r. ⌜ r ≡ length (itemEvents item) ⌝ }
 {
-    if item < 12 { 1 } else { CLOCKED }
+    if item < FIRST_BYTE { 1 } else { BYTE_EVENTS }
 }
 
 // Event number `k` of an item; 0 where the item has no such event.
@@ -34,8 +37,8 @@ pub fn event_of(item: u64, k: u64) -> u64
     if events_of(item) <= k {
         return 0;
     }
-    if item < 12 {
+    if item < FIRST_BYTE {
         return item;
     }
-    data_event(item - 12, k)
+    data_event(item - FIRST_BYTE, k)
 }

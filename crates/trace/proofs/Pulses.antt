@@ -1,16 +1,18 @@
 -- Event k of a byte's pulses: of each three, the first puts SI to the bit that is due, the second raises SCK, the third
--- lowers it. Assumes nothing.
+-- lowers it. And event k of an item. Assumes nothing.
 use mathlib.Core.Path.{_≡_, refl, sym, ap, _∙_}
-use Prim.Native.Nat.{ℕ, zero, suc, _+_, _-_, _*_, _/_, _%_, _^_, _<_}
+use Prim.Native.Nat.{ℕ, zero, suc, _+_, _-_, _*_, _/_, _%_, _^_, _<_, _≤_}
 use native.Mathlib.Nat.{add-mod-right, add-div-right}
 use native.Mathlib.Omega.{arith}
-use borrow.Author.Tests.{lt-ltb, ne-eqb}
+use borrow.Author.Tests.{lt-ltb, le-ltb, ne-eqb}
 use lib.Bits.{bitAnd, and-mask}
 use lib.Dec.{eqb}
-use lib.ListN.{length, getD}
+use lib.ListN.{length, getD, List·getD-eq-default}
 use mathlib.Core.Bool.{cond}
-use Rattle.report.specs.Items.{itemEvents}
-use Rattle.stages.specs.Clocked.{bitAt, pulses, clocked}
+use Rattle.trace.specs.Figures.{firstByte, byteEvents}
+use Rattle.trace.specs.Items.{itemEvents}
+use Rattle.trace.specs.Clocked.{pulses, clocked}
+use Rattle.parts.specs.Bits.{bitAt}
 
 -- the event at a place of a pulse, and the bit that is due
 abbrev pub beat : ℕ → ℕ → ℕ → ℕ
@@ -39,7 +41,7 @@ pulse-at (suc i) byte (suc zero) h = refl
 pulse-at (suc i) byte (suc (suc zero)) h = refl
 pulse-at (suc i) byte (suc (suc (suc k))) h = pulse-at i byte k (omega arith) ∙ sym (later byte i k)
 
-module _ (byte k : ℕ) (h : k < 24) where
+module _ (byte k : ℕ) (h : k < byteEvents) where
   pub si-beat : k % 3 ≡ 0 → 4 + bitAnd (byte / 2 ^ (7 - k / 3)) 1 ≡ getD (clocked byte) k 0
   unfolding clocked
   si-beat e = ap (λ (m : ℕ). 4 + m) (and-mask (byte / 2 ^ (7 - k / 3)) 1) ∙ sym (pulse-at 8 byte k h ∙ rw e)
@@ -52,10 +54,24 @@ module _ (byte k : ℕ) (h : k < 24) where
   unfolding clocked
   down-beat n m = sym (pulse-at 8 byte k h ∙ rw (ne-eqb (k % 3) 0 n, ne-eqb (k % 3) 1 m))
 
--- an item that is an event has that one
-pub sole : (n k : ℕ) → n < 12 → k < length (itemEvents n) → n ≡ getD (itemEvents n) k 0
+-- event k of an item that has m
+module _ (n k m : ℕ) (size : m ≡ length (itemEvents n)) where
+  pub past : m ≤ k → 0 ≡ getD (itemEvents n) k 0
+  past h = sym (List·getD-eq-default (itemEvents n) 0 (rw size at h))
+
+  -- an event has itself alone
+  pub sole : n < firstByte → k < m → n ≡ getD (itemEvents n) k 0
+  unfolding itemEvents
+  sole h l =
+      let one : k < 1 = simp (lt-ltb n firstByte h) at (rw size at l) in
+      let none : k ≡ 0 = omega arith in
+      rw (lt-ltb n firstByte h, none)
+
+  pub within : firstByte ≤ n → k < m → k < byteEvents
+  unfolding itemEvents clocked
+  within h l = simp (le-ltb n firstByte h) at (rw size at l)
+
+-- event k of a data byte
+pub of-byte : (n k r : ℕ) → firstByte ≤ n → r ≡ getD (clocked (n - firstByte)) k 0 → r ≡ getD (itemEvents n) k 0
 unfolding itemEvents
-sole n k h l =
-    let one : k < 1 = simp (lt-ltb n 12 h) at l in
-    let none : k ≡ 0 = omega arith in
-    rw (lt-ltb n 12 h, none)
+of-byte n k r h is = rw (le-ltb n firstByte h) is
