@@ -5,7 +5,7 @@ use Prim.Native.Nat.{ℕ}
 use mathlib.Core.Path.{_≡_, ap}
 use mathlib.Core.Bool.{Bool}
 use mathlib.Core.List.{List}
-use Rattle.parts.specs.TestLaws.{sole}
+use Rattle.laws.specs.TestLaws.{sole}
 use Rattle.select.specs.NoteLaws.{level-one, note-one}
 use Rattle.chip.specs.Answers.{Paper, paper}
 use Rattle.chip.specs.Power.{powerUp}

@@ -6,7 +6,7 @@ use mathlib.Core.List.{List, [], _∷_}
 use lib.Dec.{eqb}
 use lib.ListN.{length, length-set}
 use Rattle.parts.specs.Figures.{figureOf}
-use Rattle.parts.specs.TestLaws.{choose}
+use Rattle.laws.specs.TestLaws.{choose}
 use Rattle.parts.specs.declared.figures.Figure.{Figure}
 use Rattle.stages.specs.Close.{drops}
 use Rattle.select.specs.declared.notes.Note.{Note}

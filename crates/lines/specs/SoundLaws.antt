@@ -7,7 +7,7 @@ use mathlib.Core.List.{List}
 use borrow.Author.Tests.{eqb-true, eq-eqb}
 use Rattle.parts.specs.FigureLaws.{fair}
 use Rattle.parts.specs.Figures.{figureOf, isPart, inMask}
-use Rattle.parts.specs.TestLaws.{both, left, right, choose}
+use Rattle.laws.specs.TestLaws.{both, left, right, choose}
 use Rattle.stages.specs.Close.{isClosed, drops}
 use Rattle.select.specs.Fall.{statusByte}
 use Rattle.stages.specs.Sound.{soundStage}

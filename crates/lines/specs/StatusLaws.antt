@@ -11,7 +11,7 @@ use lib.Dec.{eqb}
 use lib.ListN.{length}
 use Rattle.parts.specs.FigureLaws.{fair, below-count}
 use Rattle.parts.specs.Figures.{parts, figureOf, isPart, inMask}
-use Rattle.parts.specs.TestLaws.{both, left, right}
+use Rattle.laws.specs.TestLaws.{both, left, right}
 use Rattle.stages.specs.Bits.{lowBit}
 use Rattle.stages.specs.Clocked.{bitAt}
 use Rattle.select.specs.Fall.{statusByte}

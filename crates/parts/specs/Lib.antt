@@ -2,5 +2,3 @@ pub mod Figures
 pub mod Commands
 pub mod Guards
 pub mod FigureLaws
-pub mod MaskLaws
-pub mod TestLaws

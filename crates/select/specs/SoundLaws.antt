@@ -9,8 +9,8 @@ use lib.Bits.{bitAnd, and-le-r}
 use lib.Dec.{eqb, ltb}
 use Rattle.parts.specs.Commands.{command}
 use Rattle.parts.specs.FigureLaws.{Fair}
-use Rattle.parts.specs.MaskLaws.{under-twice}
-use Rattle.parts.specs.TestLaws.{both, left, right}
+use Rattle.laws.specs.MaskLaws.{under-twice}
+use Rattle.laws.specs.TestLaws.{both, left, right}
 use Rattle.parts.specs.declared.figures.Figure.{Figure}
 use Rattle.parts.specs.declared.commands.Command.{Command}
 use Rattle.parts.specs.declared.commands.Command.the-variants.{Wren, Wrdi, Rdsr, Wrsr, Read, Write, Other}
