@@ -139,5 +139,6 @@ module _ (s : State) (h : sound s ≡ true) (on : s .power ≡ true) where
   unfolding sckFall
   sck-fall xs =
       choose Sound (holdHigh (s .hold))
-      (staged _ refl refl refl (fall-sound (figureOf (s .part)) (fair (s .part) (g .part)) xs (statusByte (figureOf (s .part)) (s .kept) (s .latch)) (s .stage) (g .stage)))
+      (staged _ refl refl refl
+      (fall-sound (figureOf (s .part)) (fair (s .part) (g .part)) xs (statusByte (figureOf (s .part)) (s .kept) (s .latch)) (s .stage) (g .stage)))
       (kept-on _ refl refl refl refl)

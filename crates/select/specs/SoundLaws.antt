@@ -19,7 +19,8 @@ use Rattle.parts.specs.declared.guards.Verdict as verdict
 use Rattle.stages.specs.Address.{upperPage, nextAddress}
 use Rattle.stages.specs.Bits.{takeBit}
 use Rattle.select.specs.Fall.{showArray, showStatus, fall}
-use Rattle.select.specs.Rise.{begun, opened, codeTaken, codeRise, upperTaken, upperRise, lowerTaken, lowerRise, writeTaken, writeRise, keptBy, keepTaken, keepRise, rise}
+use Rattle.select.specs.Rise.{begun, opened, codeTaken, codeRise, upperTaken, upperRise, lowerTaken, lowerRise}
+use Rattle.select.specs.Rise.{writeTaken, writeRise, keptBy, keepTaken, keepRise, rise}
 use Rattle.stages.specs.SoundLaws.{within, SoundTaken, take-sound, next-sound, after-code, after-address}
 use Rattle.stages.specs.Sound.{soundStage}
 use Rattle.stages.specs.declared.stage.Came.{Came}

@@ -19,7 +19,9 @@ returns-2 c = simp (c .show-status .ensures, c .before .enum-told2 .given .1, c 
 
 returns-3 : tie.Need-returns-3
 unfolding fall
-returns-3 c = simp (c .show-array2 .ensures, c .before .next-address .ensures, c .before .before .if1 .taken, c .before .before .before .before .stage2 .given .1)
+returns-3 c =
+    let b = c .before .before in
+    simp (c .show-array2 .ensures, c .before .next-address .ensures, b .if1 .taken, b .before .before .stage2 .given .1)
 
 returns-4 : tie.Need-returns-4
 unfolding fall
