@@ -1,7 +1,7 @@
 -- Each rule of document 01 told from the ways in which it could be misread: worked out from the document by hand, in its
 -- order. Part 1 over an array of 00 unless said. Assumes nothing.
 use Prim.Native.Nat.{ℕ}
-use mathlib.Core.Bool.{Bool, true, false}
+use mathlib.Core.Bool.{true, false}
 use mathlib.Core.List.{List, [], _∷_, _++_}
 use Rattle.parts.specs.declared.guards.Reason.the-variants.{LatchOff, Protect, Block}
 use Rattle.stages.specs.declared.stage.End.the-variants.{Quiet}

@@ -30,7 +30,6 @@ use Rattle.lines.specs.declared.state.State.{State}
 use Rattle.chip.specs.Event.{event, written}
 use Rattle.chip.specs.Power.{fillRefusal, filled, powerUp}
 use Rattle.chip.specs.declared.event.Answer.{Answer}
-use Rattle.chip.specs.declared.power.Powered.{Powered}
 
 -- what is sent
 
