@@ -3,8 +3,6 @@ use borrow.Author.Needs.{needs}
 use Rattle.parts.proofs.figures.in_mask.Statement.{statement}
 use Rattle.parts.proofs.figures.in_mask.Tie as tie
 
-returns : tie.Need-returns
-returns c = simp (c .before .figure-of .ensures)
-
 pub in-mask-spec : {M : Type 1} → statement M
-in-mask-spec = tie.close (tie.spec (λ c κs. search needs) (λ c. search needs) returns)
+in-mask-spec =
+    tie.close (tie.spec (λ c κs. search needs) (λ c. search needs) (λ c. simp (c .before .figure-of .ensures)))
