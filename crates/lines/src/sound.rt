@@ -4,7 +4,6 @@ ghost use Rattle.lines.specs.Sound.{rests, sound};
 use crate::hold::hold_high;
 use crate::state::State;
 use parts::figures::figure_of;
-use parts::figures::in_mask;
 use parts::figures::is_part;
 use stages::close::is_closed;
 use stages::sound::sound_stage;
@@ -25,5 +24,5 @@ pub fn sound(s: State) -> bool
     let part = s.part as u64;
     let stage = s.stage;
     let f = figure_of(part);
-    is_part(part) & in_mask(part, s.kept as u64) & sound_stage(f, stage) & (s.power | rests(s))
+    is_part(part) & (s.kept & f.kept == s.kept) & sound_stage(f, stage) & (s.power | rests(s))
 }

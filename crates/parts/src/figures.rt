@@ -1,6 +1,6 @@
 // The one table of the parts' figures. Every rule reads it; no part's number is tested anywhere else.
 ghost use mathlib.Core.Path.{_≡_};
-ghost use Rattle.parts.specs.Figures.{figureOf, fitsPart, inMask, isPart};
+ghost use Rattle.parts.specs.Figures.{figureOf, fitsPart, isPart};
 use crate::commands::Command;
 use crate::commands::OPS;
 use crate::commands::Op;
@@ -149,12 +149,4 @@ pub fn fits_part(part: u64, len: usize) -> bool
 {
     let f = figure_of(part);
     len == f.size
-}
-
-// Whether these kept bits lie under the part's mask.
-pub fn in_mask(part: u64, kept: u64) -> bool
-    ensures { λ r. ⌜ r ≡ inMask part kept ⌝ }
-{
-    let f = figure_of(part);
-    kept & (f.kept as u64) == kept
 }
