@@ -12,7 +12,7 @@ use lib.ListN.{length, getD, drop, drop-of-length-le}
 use lib.Seq.{drop-cons}
 use Rattle.chip.specs.Answers.{paper}
 use Rattle.chip.specs.Event.{event, written}
-use Rattle.chip.specs.Outcomes.{paper-one}
+use Rattle.chip.specs.Outcomes.{paper-sole}
 use Rattle.chip.specs.RefusalLaws.{refusal-stays}
 use Rattle.chip.specs.declared.event.Answer.{Answer}
 use Rattle.bench.specs.Bench.{Bench, stopped, selectText, closing, afterEvent, deskOf, onPage, benchOf}
@@ -28,7 +28,7 @@ module _ (t : Turn) (xs os out : List ℕ) (code : ℕ) (a : Answer) (ys : List 
     (is : paper a ≡ paper (event xs (t .stand .chip) code))
     (stores : ys ≡ written (event xs (t .stand .chip) code .note) xs) where
   same : a ≡ event xs (t .stand .chip) code
-  same = paper-one _ _ is
+  same = paper-sole _ _ is
 
   refuses : (a .refusal ≡ 0 → ⊥) → stopped (benchOf t ys os) (a .refusal) ≡ afterEvent (benchOf t xs os) code
   unfolding afterEvent

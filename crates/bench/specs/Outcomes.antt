@@ -3,7 +3,7 @@
 use Prim.Native.Nat.{ℕ}
 use mathlib.Core.Path.{_≡_, ap}
 use mathlib.Core.List.{List}
-use Rattle.parts.specs.TestLaws.{sole}
+use Rattle.laws.specs.TestLaws.{sole}
 use Rattle.bench.specs.Page.{Page, pageOf}
 use Rattle.bench.specs.Report.{reported}
 

@@ -18,7 +18,7 @@ module _ (xs : List ℕ) (s : State) (code : ℕ) where
   by : Bool → Answer
   by passed = answerOf (cond passed (step (figureOf (s .part)) xs s code) (refused (checks s (length xs) code) s))
 
-  pub event-refused : eqb (checks s (length xs) code) 0 ≡ false → event xs s code ≡ answerOf (refused (checks s (length xs) code) s)
+  event-refused : eqb (checks s (length xs) code) 0 ≡ false → event xs s code ≡ answerOf (refused (checks s (length xs) code) s)
   unfolding event by
   event-refused e = ap by e
 

@@ -5,8 +5,8 @@ use Prim.Native.Nat.{ℕ}
 use mathlib.Core.Path.{_≡_, ap}
 use mathlib.Core.Bool.{Bool}
 use mathlib.Core.List.{List}
-use Rattle.parts.specs.TestLaws.{sole}
-use Rattle.select.specs.NoteLaws.{level-one, note-one}
+use Rattle.laws.specs.TestLaws.{sole}
+use Rattle.select.specs.NoteLaws.{level-sole, note-sole}
 use Rattle.chip.specs.Answers.{Paper, paper}
 use Rattle.chip.specs.Power.{powerUp}
 use Rattle.chip.specs.Promises.{EventPromise, FillPromise}
@@ -15,32 +15,32 @@ use Rattle.chip.specs.declared.event.Answer.{Answer}
 use Rattle.chip.specs.declared.power.Powered.{Powered}
 use Rattle.lines.specs.declared.state.State.{State}
 
-pub paper-one : (a b : Answer) → paper a ≡ paper b → a ≡ b
-paper-one a b e = λ i. record { refusal = e i .refusal; so = so i; note = note i; state = e i .state }
+pub paper-sole : (a b : Answer) → paper a ≡ paper b → a ≡ b
+paper-sole a b e = λ i. record { refusal = e i .refusal; so = so i; note = note i; state = e i .state }
   where
     so : a .so ≡ b .so
-    so = level-one (a .so) (b .so) (ap (λ (p : Paper). p .so) e)
+    so = level-sole (a .so) (b .so) (ap (λ (p : Paper). p .so) e)
 
     note : a .note ≡ b .note
-    note = note-one (a .note) (b .note) (ap (λ (p : Paper). p .note) e)
+    note = note-sole (a .note) (b .note) (ap (λ (p : Paper). p .note) e)
 
 -- what a call leaves: its answer and the lent array
 module _ (xs : List ℕ) (s : State) (code : ℕ) where
-  pub event-one : (a b : Answer) (ys zs : List ℕ)
+  pub event-sole : (a b : Answer) (ys zs : List ℕ)
       → EventPromise xs s code a ys
       → EventPromise xs s code b zs
       → (a ≡ b) × (ys ≡ zs)
-  event-one a b ys zs p q = (paper-one a b (sole (p .0) (q .0)), sole (p .1) (q .1))
+  event-sole a b ys zs p q = (paper-sole a b (sole (p .0) (q .0)), sole (p .1) (q .1))
 
 module _ (part kept : ℕ) (xs : List ℕ) where
-  pub power-up-one : (a b : Powered) → a ≡ powerUp part kept xs → b ≡ powerUp part kept xs → a ≡ b
-  power-up-one a b = sole
+  pub power-up-sole : (a b : Powered) → a ≡ powerUp part kept xs → b ≡ powerUp part kept xs → a ≡ b
+  power-up-sole a b = sole
 
-  pub fill-one : (a b : ℕ) (ys zs : List ℕ)
+  pub fill-sole : (a b : ℕ) (ys zs : List ℕ)
       → FillPromise part xs a ys
       → FillPromise part xs b zs
       → (a ≡ b) × (ys ≡ zs)
-  fill-one a b ys zs p q = (sole (p .0) (q .0), sole (p .1) (q .1))
+  fill-sole a b ys zs p q = (sole (p .0) (q .0), sole (p .1) (q .1))
 
-pub sound-one : (s : State) (a b : Bool) → a ≡ sound s → b ≡ sound s → a ≡ b
-sound-one s a b = sole
+pub sound-sole : (s : State) (a b : Bool) → a ≡ sound s → b ≡ sound s → a ≡ b
+sound-sole s a b = sole

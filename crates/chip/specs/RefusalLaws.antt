@@ -8,7 +8,7 @@ use borrow.Author.Tests.{eqb-false}
 use lib.Dec.{eqb}
 use lib.ListN.{length}
 use Rattle.parts.specs.Figures.{figureOf}
-use Rattle.parts.specs.TestLaws.{choose}
+use Rattle.laws.specs.TestLaws.{choose}
 use Rattle.parts.specs.declared.figures.Figure.{Figure}
 use Rattle.lines.specs.Edges.{silent, siTo, holdFall, holdRise, wpTo, vddRise}
 use Rattle.lines.specs.Lines.{holdHigh}

@@ -6,7 +6,7 @@ use mathlib.Core.List.{List, [], _∷_}
 use lib.Dec.{eqb}
 use lib.ListN.{length, length-set}
 use Rattle.parts.specs.Figures.{figureOf}
-use Rattle.parts.specs.TestLaws.{choose}
+use Rattle.laws.specs.TestLaws.{choose}
 use Rattle.parts.specs.declared.figures.Figure.{Figure}
 use Rattle.stages.specs.Close.{drops}
 use Rattle.select.specs.declared.notes.Note.{Note}
@@ -16,7 +16,7 @@ use Rattle.lines.specs.Lines.{csLevel, holdHigh}
 use Rattle.lines.specs.Sound.{sound}
 use Rattle.lines.specs.declared.state.State.{State}
 use Rattle.lines.specs.declared.state.Moved.{Moved}
-use Rattle.chip.specs.Event.{csTo, sckTo, holdTo, csStayed, vddTo, live, dark, step, checks, event, written}
+use Rattle.chip.specs.Event.{csTo, sckTo, holdTo, csStayed, vddTo, live, step, checks, event, written}
 use Rattle.chip.specs.Run.{Chip, next, run}
 use Rattle.chip.specs.SoundLaws.{event-sound}
 use Rattle.chip.specs.declared.event.Stepped.{Stepped}

@@ -8,7 +8,7 @@ use borrow.Author.Tests.{eqb-true}
 use lib.ListN.{length}
 use lib.Dec.{eqb}
 use Rattle.parts.specs.Figures.{figureOf}
-use Rattle.parts.specs.TestLaws.{choose}
+use Rattle.laws.specs.TestLaws.{choose}
 use Rattle.lines.specs.Edges.{holdFall, holdRise}
 use Rattle.chip.specs.Event.{csTo, sckTo, holdTo, csStayed, vddTo, live, dark, step, checks, event}
 use Rattle.chip.specs.EventLaws.{checks-passed, accepted-passed}

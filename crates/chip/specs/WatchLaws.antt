@@ -8,7 +8,7 @@ use mathlib.Core.List.{List}
 use borrow.Author.Tests.{eqb-true, eqb-false, not-true}
 use lib.Dec.{eqb}
 use Rattle.parts.specs.Figures.{figureOf}
-use Rattle.parts.specs.TestLaws.{left, right, choose}
+use Rattle.laws.specs.TestLaws.{left, right, choose}
 use Rattle.parts.specs.declared.figures.Figure.{Figure}
 use Rattle.stages.specs.Bits.{fresh}
 use Rattle.stages.specs.Close.{isClosed, drops}

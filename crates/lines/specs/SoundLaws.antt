@@ -7,7 +7,7 @@ use mathlib.Core.List.{List}
 use borrow.Author.Tests.{eqb-true, eq-eqb}
 use Rattle.parts.specs.FigureLaws.{fair}
 use Rattle.parts.specs.Figures.{figureOf, isPart, inMask}
-use Rattle.parts.specs.TestLaws.{both, left, right, choose}
+use Rattle.laws.specs.TestLaws.{both, left, right, choose}
 use Rattle.stages.specs.Close.{isClosed, drops}
 use Rattle.select.specs.Fall.{statusByte}
 use Rattle.stages.specs.Sound.{soundStage}
@@ -139,5 +139,6 @@ module _ (s : State) (h : sound s ≡ true) (on : s .power ≡ true) where
   unfolding sckFall
   sck-fall xs =
       choose Sound (holdHigh (s .hold))
-      (staged _ refl refl refl (fall-sound (figureOf (s .part)) (fair (s .part) (g .part)) xs (statusByte (figureOf (s .part)) (s .kept) (s .latch)) (s .stage) (g .stage)))
+      (staged _ refl refl refl
+      (fall-sound (figureOf (s .part)) (fair (s .part) (g .part)) xs (statusByte (figureOf (s .part)) (s .kept) (s .latch)) (s .stage) (g .stage)))
       (kept-on _ refl refl refl refl)

@@ -9,10 +9,10 @@ use borrow.Author.Tests.{eqb-true, eqb-false}
 use lib.Bits.{bitAnd, and-le-r}
 use lib.Dec.{eqb}
 use lib.ListN.{length}
-use Rattle.parts.specs.Bits.{bitAt}
+use Rattle.laws.specs.Bits.{bitAt}
 use Rattle.parts.specs.FigureLaws.{fair, below-count}
 use Rattle.parts.specs.Figures.{parts, figureOf, isPart, inMask}
-use Rattle.parts.specs.TestLaws.{both, left, right}
+use Rattle.laws.specs.TestLaws.{both, left, right}
 use Rattle.stages.specs.Bits.{lowBit}
 use Rattle.select.specs.Fall.{statusByte}
 use Rattle.lines.specs.Sound.{sound}
@@ -63,7 +63,8 @@ module _ (s : State) (h : sound s ≡ true) where
   pub status-byte : statusByte (figureOf (s .part)) (s .kept) (s .latch) ≡ statusBits (s .part) (s .kept) (s .latch)
   status-byte =
       eqb-true _ _
-      (passed (isPart (s .part) && inMask (s .part) (s .kept)) (eqb (statusByte (figureOf (s .part)) (s .kept) (s .latch)) (statusBits (s .part) (s .kept) (s .latch)))
+      (passed (isPart (s .part) && inMask (s .part) (s .kept))
+      (eqb (statusByte (figureOf (s .part)) (s .kept) (s .latch)) (statusBits (s .part) (s .kept) (s .latch)))
       (both (good s h .part) (good s h .kept))
       (one-below (same (s .part) (s .latch)) 256 (s .kept)
       (one-below (λ part. allBelow (same part (s .latch)) 256) (length parts) (s .part) (all-same (s .latch)) (below-count (s .part) (good s h .part)))

@@ -8,7 +8,7 @@ use borrow.Author.Tests.{eqb-false, leb-true, ltb-true}
 use lib.Dec.{leb, ltb, lit<, lit≤}
 use lib.ListN.{getD, length}
 use Rattle.parts.specs.Figures.{none, fm25l04, fm25c160, rows, parts, figureOf, isPart}
-use Rattle.parts.specs.TestLaws.{left, right}
+use Rattle.laws.specs.TestLaws.{left, right}
 use Rattle.parts.specs.declared.figures.Figure.{Figure}
 
 -- where the address stands: its top bit in the op-code and the rest in one byte, or two bytes

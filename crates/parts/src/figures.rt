@@ -1,6 +1,6 @@
 // The one table of the parts' figures. Every rule reads it; no part's number is tested anywhere else.
 ghost use mathlib.Core.Path.{_≡_};
-ghost use Rattle.parts.specs.Figures.{figureOf, isPart};
+ghost use Rattle.parts.specs.Figures.{figureOf, fitsPart, isPart};
 use crate::commands::Command;
 use crate::commands::OPS;
 use crate::commands::Op;
@@ -141,4 +141,12 @@ pub fn figure_of(part: u64) -> Figure
         3 => FM25C160,
         _ => NO_PART,
     }
+}
+
+// Whether an array of this length is the part's.
+pub fn fits_part(part: u64, len: usize) -> bool
+    ensures { λ r. ⌜ r ≡ fitsPart part len ⌝ }
+{
+    let f = figure_of(part);
+    len == f.size
 }

@@ -22,8 +22,8 @@ level-back Low = refl
 level-back High = refl
 level-back Released = refl
 
-pub level-one : (a b : Level) → levelNumber a ≡ levelNumber b → a ≡ b
-level-one a b e = sym (level-back a) ∙ ap levelOf e ∙ level-back b
+pub level-sole : (a b : Level) → levelNumber a ≡ levelNumber b → a ≡ b
+level-sole a b e = sym (level-back a) ∙ ap levelOf e ∙ level-back b
 
 reasonOf : ℕ → Reason
 reasonOf n = cond (eqb n 1) LatchOff (cond (eqb n 2) Protect Block)
@@ -55,5 +55,5 @@ note-back (KeptSet kept) = refl
 note-back (KeptHeldBack reason) = ap KeptHeldBack (reason-back reason)
 note-back PowerLost = refl
 
-pub note-one : (a b : Note) → noteNumbers a ≡ noteNumbers b → a ≡ b
-note-one a b e = sym (note-back a) ∙ ap noteOf e ∙ note-back b
+pub note-sole : (a b : Note) → noteNumbers a ≡ noteNumbers b → a ≡ b
+note-sole a b e = sym (note-back a) ∙ ap noteOf e ∙ note-back b

@@ -9,8 +9,8 @@ use lib.Bits.{bitAnd, and-le-r}
 use lib.Dec.{eqb, ltb}
 use Rattle.parts.specs.Commands.{command}
 use Rattle.parts.specs.FigureLaws.{Fair}
-use Rattle.parts.specs.MaskLaws.{under-twice}
-use Rattle.parts.specs.TestLaws.{both, left, right}
+use Rattle.laws.specs.MaskLaws.{under-twice}
+use Rattle.laws.specs.TestLaws.{both, left, right}
 use Rattle.parts.specs.declared.figures.Figure.{Figure}
 use Rattle.parts.specs.declared.commands.Command.{Command}
 use Rattle.parts.specs.declared.commands.Command.the-variants.{Wren, Wrdi, Rdsr, Wrsr, Read, Write, Other}
@@ -19,7 +19,8 @@ use Rattle.parts.specs.declared.guards.Verdict as verdict
 use Rattle.stages.specs.Address.{upperPage, nextAddress}
 use Rattle.stages.specs.Bits.{takeBit}
 use Rattle.select.specs.Fall.{showArray, showStatus, fall}
-use Rattle.select.specs.Rise.{begun, opened, codeTaken, codeRise, upperTaken, upperRise, lowerTaken, lowerRise, writeTaken, writeRise, keptBy, keepTaken, keepRise, rise}
+use Rattle.select.specs.Rise.{begun, opened, codeTaken, codeRise, upperTaken, upperRise, lowerTaken, lowerRise}
+use Rattle.select.specs.Rise.{writeTaken, writeRise, keptBy, keepTaken, keepRise, rise}
 use Rattle.stages.specs.SoundLaws.{within, SoundTaken, take-sound, next-sound, after-code, after-address}
 use Rattle.stages.specs.Sound.{soundStage}
 use Rattle.stages.specs.declared.stage.Came.{Came}

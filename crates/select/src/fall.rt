@@ -47,10 +47,6 @@ pub fn fall(f: Figure, array: &[u8], status: u8, stage: Stage) -> Stage
     ensures { λ r. ⌜ r ≡ fall f (now (array .entry)) status stage ⌝ }
 {
     match stage {
-        Stage::Closed => stage,
-        Stage::Code { .. } => stage,
-        Stage::Upper { .. } => stage,
-        Stage::Lower { .. } => stage,
         Stage::Ready { what, at } => match what {
             What::Array => show_array(array, at, 7),
             What::Status => show_status(status, 7),
@@ -69,9 +65,7 @@ pub fn fall(f: Figure, array: &[u8], status: u8, stage: Stage) -> Stage
                 show_status(status, bit - 1)
             }
         }
-        Stage::Writing { .. } => stage,
-        Stage::Keeping { .. } => stage,
-        Stage::Over { .. } => stage,
+        _ => stage,
     }
 }
 

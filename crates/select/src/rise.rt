@@ -203,7 +203,6 @@ pub fn rise(f: Figure, seen: Seen, stage: Stage) -> Risen
     ensures { λ r. ⌜ r ≡ rise f seen stage ⌝ }
 {
     match stage {
-        Stage::Closed => to_stage(seen, stage),
         Stage::Code { shift } => code_rise(f, seen, shift),
         Stage::Upper { purpose, shift } => upper_rise(f, seen, purpose, shift),
         Stage::Lower {
@@ -211,11 +210,8 @@ pub fn rise(f: Figure, seen: Seen, stage: Stage) -> Risen
             shift,
             page,
         } => lower_rise(seen, purpose, shift, page),
-        Stage::Ready { .. } => to_stage(seen, stage),
-        Stage::ArrayOut { .. } => to_stage(seen, stage),
-        Stage::StatusOut { .. } => to_stage(seen, stage),
         Stage::Writing { came, shift, at } => write_rise(f, seen, came, shift, at),
         Stage::Keeping { shift } => keep_rise(f, seen, shift),
-        Stage::Over { .. } => to_stage(seen, stage),
+        _ => to_stage(seen, stage),
     }
 }

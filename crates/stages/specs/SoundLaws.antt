@@ -8,7 +8,7 @@ use borrow.Author.Tests.{lt-ltb, ltb-true, leb-false}
 use lib.Bits.{bitAnd, or-shifted}
 use lib.Dec.{eqb, leb, ltb, lit<}
 use Rattle.parts.specs.FigureLaws.{Fair}
-use Rattle.parts.specs.TestLaws.{both, left, right}
+use Rattle.laws.specs.TestLaws.{both, left, right}
 use Rattle.parts.specs.declared.figures.Figure.{Figure}
 use Rattle.stages.specs.Address.{codePage, afterCode, afterAddress, nextAddress}
 use Rattle.stages.specs.Bits.{fresh, lowBit, shifted, takeBit}

@@ -12,7 +12,7 @@ use mathlib.Core.Bool.{cond}
 use Rattle.trace.specs.Figures.{firstByte, byteEvents}
 use Rattle.trace.specs.Items.{itemEvents}
 use Rattle.trace.specs.Clocked.{pulses, clocked}
-use Rattle.parts.specs.Bits.{bitAt}
+use Rattle.laws.specs.Bits.{bitAt}
 
 -- the event at a place of a pulse, and the bit that is due
 abbrev pub beat : ℕ → ℕ → ℕ → ℕ

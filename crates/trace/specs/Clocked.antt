@@ -1,7 +1,7 @@
 -- A byte as the events that clock it in. Assumes nothing.
 use Prim.Native.Nat.{ℕ, zero, suc, _+_}
 use mathlib.Core.List.{List, [], _∷_, _++_}
-use Rattle.parts.specs.Bits.{bitAt}
+use Rattle.laws.specs.Bits.{bitAt}
 
 -- "SI, SCK up, SCK down": event 4 or 5 by the bit, then 3, then 2
 abbrev pub pulse : ℕ → List ℕ

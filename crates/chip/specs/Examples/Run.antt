@@ -6,7 +6,7 @@ use mathlib.Core.List.{List, [], _∷_, _++_, map}
 use lib.ListN.{set, take, replicate}
 use lib.Dec.{eqb}
 use Rattle.trace.specs.Clocked.{clocked}
-use Rattle.parts.specs.Bits.{bitAt}
+use Rattle.laws.specs.Bits.{bitAt}
 use Rattle.parts.specs.Figures.{figureOf}
 use Rattle.stages.specs.Bits.{lowBit}
 use Rattle.stages.specs.declared.stage.Came.the-variants.{NoByte, Bytes}

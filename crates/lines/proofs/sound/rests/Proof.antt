@@ -4,9 +4,7 @@ use borrow.Author.Needs.{needs}
 use Rattle.lines.proofs.sound.rests.Statement.{statement}
 use Rattle.lines.proofs.sound.rests.Tie as tie
 
-returns : tie.Need-returns
-unfolding rests
-returns c = simp (c .is-closed .ensures, c .before .hold-high .ensures)
-
 pub rests-spec : {M : Type 1} → statement M
-rests-spec = tie.close (tie.spec (λ c κs. search needs) (λ c κs. search needs) returns)
+unfolding rests
+rests-spec =
+    tie.close (tie.spec (λ c κs. search needs) (λ c κs. search needs) (λ c. simp (c .is-closed .ensures, c .before .hold-high .ensures)))

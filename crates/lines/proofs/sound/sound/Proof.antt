@@ -6,15 +6,13 @@ use Rattle.lines.proofs.sound.sound.Tie as tie
 
 returns : tie.Need-returns
 unfolding sound
-returns c = simp (c .before .rests .ensures, c .before .before .sound-stage .ensures, c .before .before .before .before .before .before .is-part .ensures, c .before .before .before .before .before .before .before .figure-of .ensures)
+returns c =
+    let p = c .before .before .before .before .before .before in
+    simp (c .before .rests .ensures, c .before .before .sound-stage .ensures, p .is-part .ensures, p .before .figure-of .ensures)
 
 pub sound-spec : {M : Type 1} → statement M
 sound-spec =
     tie.close
     (tie.spec
-    (λ c. search needs)
-    (λ c κs. search needs)
-    (λ c κs. search needs)
-    (λ c κs. search needs)
-    (λ c κs. search needs)
+    (λ c. search needs) (λ c κs. search needs) (λ c κs. search needs) (λ c κs. search needs) (λ c κs. search needs)
     returns)

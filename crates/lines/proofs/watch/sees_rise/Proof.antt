@@ -4,9 +4,7 @@ use borrow.Author.Needs.{needs}
 use Rattle.lines.proofs.watch.sees_rise.Statement.{statement}
 use Rattle.lines.proofs.watch.sees_rise.Tie as tie
 
-returns : tie.Need-returns
-unfolding seesRise
-returns c = simp (c .before .is-open .ensures, c .before .before .before .hold-high .ensures)
-
 pub sees-rise-spec : {M : Type 1} → statement M
-sees-rise-spec = tie.close (tie.spec (λ c κs. search needs) (λ c κs. search needs) returns)
+unfolding seesRise
+sees-rise-spec =
+    tie.close (tie.spec (λ c κs. search needs) (λ c κs. search needs) (λ c. simp (c .before .is-open .ensures, c .before .before .before .hold-high .ensures)))

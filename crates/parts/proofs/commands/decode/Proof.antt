@@ -1,6 +1,6 @@
 -- The command of the entries from here on is the command of the whole list; at an entry with the op-code it is that
 -- entry's, past the end there is none.
-use Prim.Native.Nat.{ℕ, _-_, _≤_}
+use Prim.Native.Nat.{_-_, _≤_}
 use mathlib.Core.Path.{_≡_}
 use borrow.Author.Needs.{needs}
 use lib.ListN.{drop}
@@ -17,15 +17,15 @@ abbrev μ-loop : tie.MeasureT-loop
 
 returns : tie.Need-returns Inv-loop μ-loop
 returns c =
-    found _ (c .before .before .before .before .loop .i) _ 8 (c .before .before .before .before .before .good .0 .1 .0 .1)
-    (c .before .before .before .before .loop .inv .1) _ (c .before .before .before .loop-test .taken) (c .if1 .taken)
+    let l = c .before .before .before .before in
+    found _ (l .loop .i) _ 8 (l .before .good .0 .1 .0 .1) (l .loop .inv .1) _ (c .before .before .before .loop-test .taken) (c .if1 .taken)
 
 loop-again : tie.Need-loop-again Inv-loop μ-loop
-loop-again c = (
-  search needs,
-  missed _ (c .before .before .before .before .loop .i) _ 8 (c .before .before .before .before .before .good .0 .1 .0 .1)
-      (c .before .before .before .before .loop .inv .1) _ (c .before .before .before .loop-test .taken) (c .if1 .left),
-)
+loop-again c =
+    let l = c .before .before .before .before in (
+      search needs,
+      missed _ (l .loop .i) _ 8 (l .before .good .0 .1 .0 .1) (l .loop .inv .1) _ (c .before .before .before .loop-test .taken) (c .if1 .left),
+    )
 
 returns-2 : tie.Need-returns-2 Inv-loop μ-loop
 returns-2 c =
@@ -35,13 +35,5 @@ pub decode-spec : {M : Type 1} → statement M
 decode-spec =
     tie.close
     (tie.spec
-    Inv-loop
-    μ-loop
-    (λ c. search needs)
-    (λ c. search needs)
-    (λ c. search needs)
-    returns
-    (λ c. search needs)
-    (λ c. search needs)
-    loop-again
-    returns-2)
+    Inv-loop μ-loop (λ c. search needs) (λ c. search needs) (λ c. search needs) returns (λ c. search needs)
+    (λ c. search needs) loop-again returns-2)

@@ -16,11 +16,17 @@ returns-2 c = simp (c .if2 .taken, c .before .before .if1 .left)
 
 returns-3 : tie.Need-returns-3
 unfolding mayStore
-returns-3 c = simp (← c .before .before .before .before .first-protected .ensures, le-leb (c .before .before .before .before .first-protected .result) (c .before .before .before .before .before .args .at) (omega (arith, c .if3 .taken)), c .before .if2 .left, c .before .before .before .if1 .left)
+returns-3 c =
+    let b = c .before .before .before in
+    let first = b .before .first-protected in
+    simp (← first .ensures, le-leb (first .result) (b .before .before .args .at) (omega (arith, c .if3 .taken)), c .before .if2 .left, b .if1 .left)
 
 returns-4 : tie.Need-returns-4
 unfolding mayStore
-returns-4 c = simp (← c .before .before .before .before .first-protected .ensures, lt-leb (c .before .before .before .before .first-protected .result) (c .before .before .before .before .before .args .at) (omega (arith, c .if3 .left)), c .before .if2 .left, c .before .before .before .if1 .left)
+returns-4 c =
+    let b = c .before .before .before in
+    let first = b .before .first-protected in
+    simp (← first .ensures, lt-leb (first .result) (b .before .before .args .at) (omega (arith, c .if3 .left)), c .before .if2 .left, b .if1 .left)
 
 pub may-store-spec : {M : Type 1} → statement M
 may-store-spec =

@@ -4,9 +4,7 @@ use borrow.Author.Needs.{needs}
 use Rattle.select.proofs.fall.show_array.Statement.{statement}
 use Rattle.select.proofs.fall.show_array.Tie as tie
 
-returns : tie.Need-returns
-unfolding showArray
-returns c = simp (c .bit-of .ensures, c .before .byte-at .ensures)
-
 pub show-array-spec : {M : Type 1} → statement M
-show-array-spec = tie.close (tie.spec (λ c κs. search needs) (λ c κs. search needs) returns)
+unfolding showArray
+show-array-spec =
+    tie.close (tie.spec (λ c κs. search needs) (λ c κs. search needs) (λ c. simp (c .bit-of .ensures, c .before .byte-at .ensures)))

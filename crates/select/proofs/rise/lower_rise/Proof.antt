@@ -10,17 +10,13 @@ returns c = simp (c .to-stage .ensures, ← c .before .before .before .before .t
 
 returns-2 : tie.Need-returns-2
 unfolding lowerRise
-returns-2 c = simp (c .to-stage2 .ensures, c .before .addressed .ensures, ← c .before .before .before .before .before .take-bit .ensures, c .before .before .before .taken2 .given .1)
+returns-2 c =
+    let b = c .before .before .before in
+    simp (c .to-stage2 .ensures, c .before .addressed .ensures, ← b .before .before .take-bit .ensures, b .taken2 .given .1)
 
 pub lower-rise-spec : {M : Type 1} → statement M
 lower-rise-spec =
     tie.close
     (tie.spec
-    (λ c κs. search needs)
-    (λ c. search needs)
-    (λ c κs. search needs)
-    (λ c. search needs)
-    (λ c κs. search needs)
-    (λ c κs. search needs)
-    returns
-    returns-2)
+    (λ c κs. search needs) (λ c. search needs) (λ c κs. search needs) (λ c. search needs) (λ c κs. search needs)
+    (λ c κs. search needs) returns returns-2)

@@ -22,11 +22,15 @@ returns-4 c = simp (c .to-stage2 .ensures, ← c .before .before .before .decode
 
 returns-5 : tie.Need-returns-5
 unfolding opened
-returns-5 c = simp (c .to-stage3 .ensures, c .before .header .ensures, ← c .before .before .before .before .decode .ensures, c .before .before .enum-told5 .given .1)
+returns-5 c =
+    let b = c .before .before in
+    simp (c .to-stage3 .ensures, c .before .header .ensures, ← b .before .before .decode .ensures, b .enum-told5 .given .1)
 
 returns-6 : tie.Need-returns-6
 unfolding opened
-returns-6 c = simp (c .to-stage4 .ensures, c .before .header2 .ensures, ← c .before .before .before .before .decode .ensures, c .before .before .enum-told6 .given .1)
+returns-6 c =
+    let b = c .before .before in
+    simp (c .to-stage4 .ensures, c .before .header2 .ensures, ← b .before .before .decode .ensures, b .enum-told6 .given .1)
 
 returns-7 : tie.Need-returns-7
 unfolding opened
@@ -36,25 +40,7 @@ pub open-spec : {M : Type 1} → statement M
 open-spec =
     tie.close
     (tie.spec
-    (λ c κs. search needs)
-    (λ c. search needs)
-    (λ c. search needs)
-    (λ c. search needs)
-    (λ c κs. search needs)
-    (λ c. search needs)
-    (λ c κs. search needs)
-    (λ c. search needs)
-    (λ c κs. search needs)
-    (λ c κs. search needs)
-    (λ c. search needs)
-    (λ c κs. search needs)
-    (λ c κs. search needs)
-    (λ c. search needs)
-    (λ c κs. search needs)
-    returns
-    returns-2
-    returns-3
-    returns-4
-    returns-5
-    returns-6
-    returns-7)
+    (λ c κs. search needs) (λ c. search needs) (λ c. search needs) (λ c. search needs) (λ c κs. search needs)
+    (λ c. search needs) (λ c κs. search needs) (λ c. search needs) (λ c κs. search needs) (λ c κs. search needs)
+    (λ c. search needs) (λ c κs. search needs) (λ c κs. search needs) (λ c. search needs) (λ c κs. search needs) returns
+    returns-2 returns-3 returns-4 returns-5 returns-6 returns-7)

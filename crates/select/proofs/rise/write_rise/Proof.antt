@@ -10,18 +10,14 @@ returns c = simp (c .to-stage .ensures, ← c .before .before .before .before .t
 
 returns-2 : tie.Need-returns-2
 unfolding writeRise
-returns-2 c = simp (c .next-address .ensures, c .before .store-note .ensures, c .before .before .may-store .ensures, ← c .before .before .before .before .before .before .take-bit .ensures, c .before .before .before .before .taken2 .given .1)
+returns-2 c =
+    let b = c .before .before in
+    let t = b .before .before in
+    simp (c .next-address .ensures, c .before .store-note .ensures, b .may-store .ensures, ← t .before .before .take-bit .ensures, t .taken2 .given .1)
 
 pub write-rise-spec : {M : Type 1} → statement M
 write-rise-spec =
     tie.close
     (tie.spec
-    (λ c κs. search needs)
-    (λ c. search needs)
-    (λ c κs. search needs)
-    (λ c. search needs)
-    (λ c κs. search needs)
-    (λ c κs. search needs)
-    (λ c κs. search needs)
-    returns
-    returns-2)
+    (λ c κs. search needs) (λ c. search needs) (λ c κs. search needs) (λ c. search needs) (λ c κs. search needs)
+    (λ c κs. search needs) (λ c κs. search needs) returns returns-2)

@@ -1,7 +1,5 @@
 -- An address at or past the last one rolls to 0; the code tests in two steps, so that no sum wraps.
-use Prim.Native.Nat.{_+_}
 use native.Mathlib.Nat.{le-trans, le-add-right}
-use native.Mathlib.Omega.{arith}
 use borrow.Author.Tests.{le-leb, lt-leb}
 use Rattle.stages.specs.Address.{nextAddress}
 use borrow.Author.Needs.{needs}
@@ -14,11 +12,11 @@ returns c = simp (le-leb _ _ (le-trans (c .if1 .taken) (le-add-right _ 1)))
 
 returns-2 : tie.Need-returns-2
 unfolding nextAddress
-returns-2 c = simp (le-leb (c .before .before .before .before .args .f .size) (c .before .before .before .before .args .at + 1) (omega (arith, c .if2 .taken)))
+returns-2 c = simp (le-leb _ _ (c .if2 .taken))
 
 returns-3 : tie.Need-returns-3
 unfolding nextAddress
-returns-3 c = simp (lt-leb (c .before .before .before .before .args .f .size) (c .before .before .before .before .args .at + 1) (omega (arith, c .if2 .left)))
+returns-3 c = simp (lt-leb _ _ (c .if2 .left))
 
 pub next-address-spec : {M : Type 1} → statement M
 next-address-spec = tie.close (tie.spec returns (λ c. search needs) returns-2 returns-3)

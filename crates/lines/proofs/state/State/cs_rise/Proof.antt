@@ -6,11 +6,15 @@ use Rattle.lines.proofs.state.State.cs_rise.Tie as tie
 
 returns : tie.Need-returns
 unfolding csRise
-returns c = rw (← c .before .before .drops .ensures, ← c .before .before .before .before .hold-high .ensures, c .if2 .taken, c .before .before .before .if1 .taken)
+returns c =
+    let b = c .before .before in
+    rw (← b .drops .ensures, ← b .before .before .hold-high .ensures, c .if2 .taken, b .before .if1 .taken)
 
 returns-2 : tie.Need-returns-2
 unfolding csRise
-returns-2 c = rw (← c .before .before .drops .ensures, ← c .before .before .before .before .hold-high .ensures, c .if2 .left, c .before .before .before .if1 .taken)
+returns-2 c =
+    let b = c .before .before in
+    rw (← b .drops .ensures, ← b .before .before .hold-high .ensures, c .if2 .left, b .before .if1 .taken)
 
 returns-3 : tie.Need-returns-3
 unfolding csRise

@@ -3,8 +3,6 @@ use borrow.Author.Needs.{needs}
 use Rattle.lines.proofs.state.State.vdd_rise.Statement.{statement}
 use Rattle.lines.proofs.state.State.vdd_rise.Tie as tie
 
-returns : tie.Need-returns
-returns c = simp (c .silent .ensures, c .before .at-rest .ensures)
-
 pub vdd-rise-spec : {M : Type 1} → statement M
-vdd-rise-spec = tie.close (tie.spec (λ c κs. search needs) (λ c κs. search needs) returns)
+vdd-rise-spec =
+    tie.close (tie.spec (λ c κs. search needs) (λ c κs. search needs) (λ c. simp (c .silent .ensures, c .before .at-rest .ensures)))

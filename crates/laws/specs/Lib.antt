@@ -1,0 +1,4 @@
+pub mod Bits
+pub mod TestLaws
+pub mod MaskLaws
+pub mod ArmLaws
