@@ -5,11 +5,11 @@ use mathlib.Core.Bool.{Bool, true, false, cond}
 use mathlib.Core.List.{List, [], _∷_, _++_, append-assoc, append-nil}
 use Prim.Native.Nat.{ℕ}
 use lib.Dec.{eqb}
-use Rattle.lines.specs.declared.state.State.{State}
+use Rattle.pins.specs.declared.state.State.{State}
 use Rattle.chip.specs.Event.{event, written}
 use Rattle.chip.specs.declared.event.Answer.{Answer}
 use Rattle.trace.specs.Items.{itemEvents}
-use Rattle.bench.specs.Bench.{Bench, goesOn, stopped, closing, taken, answered, afterEvent, deskOf, onPage, benchOf}
+use Rattle.bench.specs.Bench.{Bench, runsOn, stopped, closing, taken, afterAnswer, afterEvent, deskOf, onPage, benchOf}
 use Rattle.bench.specs.Page.{Page, pageOf, printed}
 use Rattle.bench.specs.Run.{afterEvents, afterItem, afterItems, itemsFrom, endedBy, ranFrom}
 use Rattle.bench.specs.Stand.{after, shownBy}
@@ -39,14 +39,14 @@ tells-event : (code : ℕ) → Tells (λ b. afterEvent b code)
 unfolding afterEvent
 tells-event code t b = go (event (b .array) (b .stand .chip) code)
   where
-    go : (a : Answer) → answered (front t b) code a ≡ front t (answered b code a)
+    go : (a : Answer) → afterAnswer (front t b) code a ≡ front t (afterAnswer b code a)
     go a =
         tells-answer t b (a .state) (after (b .stand) code a) (written (a .note) (b .array))
         (shownBy (b .shown) (b .stand) code) (a .refusal) (eqb (a .refusal) 0)
 
 pub tells-events : (es : List ℕ) → Tells (λ b. afterEvents b es)
 tells-events [] t b = refl
-tells-events (e ∷ es) t b = ap (λ (x : Bench). afterEvents x es) (go (goesOn b)) ∙ tells-events es t (cond (goesOn b) (afterEvent b e) b)
+tells-events (e ∷ es) t b = ap (λ (x : Bench). afterEvents x es) (go (runsOn b)) ∙ tells-events es t (cond (runsOn b) (afterEvent b e) b)
   where
     go : (v : Bool) → cond v (afterEvent (front t b) e) (front t b) ≡ front t (cond v (afterEvent b e) b)
     go true = tells-event e t b
@@ -61,7 +61,7 @@ pub tells-ran : (s : List ℕ) (at : ℕ) → Tells (ranFrom s at)
 unfolding ranFrom
 tells-ran s at t b =
     ap (λ (x : Bench). endedBy x (itemsFrom s at .refusal)) (tells-items (itemsFrom s at .numbers) t b)
-    ∙ go (afterItems b (itemsFrom s at .numbers)) (itemsFrom s at .refusal) (goesOn (afterItems b (itemsFrom s at .numbers)))
+    ∙ go (afterItems b (itemsFrom s at .numbers)) (itemsFrom s at .refusal) (runsOn (afterItems b (itemsFrom s at .numbers)))
   where
     go : (x : Bench) (row : ℕ) (v : Bool) → cond v (stopped (front t x) row) (front t x) ≡ front t (cond v (stopped x row) x)
     go x row true = refl

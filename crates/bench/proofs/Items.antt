@@ -8,7 +8,7 @@ use native.Mathlib.Nat.{eq-or-lt-of-le}
 use native.Mathlib.Omega.{arith}
 use borrow.Author.Tests.{ne-eqb}
 use lib.ListN.{length}
-use Rattle.trace.specs.Answers.{Value, num, end, accepted}
+use Rattle.trace.specs.Answers.{Value, num, end, numberRead}
 use Rattle.trace.specs.Number.{reading}
 use Rattle.trace.specs.NumberLaws.{forward}
 use Rattle.trace.specs.ScanLaws.{reading-beyond, reading-end}
@@ -20,7 +20,7 @@ module _ (s : List ℕ) where
       ⊎-elim (λ q. rw (reading-end s at (sym q))) (λ l. rw (reading-beyond s at l)) (eq-or-lt-of-le h)
 
   -- only what is read further on counts
-  alike : (at : ℕ) (f g : ℕ → Items) → ((n next : ℕ) → reading s at ≡ accepted n next → f next ≡ g next)
+  alike : (at : ℕ) (f g : ℕ → Items) → ((n next : ℕ) → reading s at ≡ numberRead n next → f next ≡ g next)
       → readOn (reading s at) f ≡ readOn (reading s at) g
   alike at f g h = go (reading s at .refusal) (reading s at .value) (reading s at .place) refl
     where

@@ -8,7 +8,7 @@ use native.Mathlib.Nat.{le-of-suc-le-suc, not-suc-le-zero}
 use borrow.Author.Tests.{eq-eqb, ne-eqb}
 use lib.Dec.{eqb}
 use lib.ListN.{take, replicate}
-use Rattle.trace.specs.Answers.{accepted, ended, refused, numberOf, readTold}
+use Rattle.trace.specs.Answers.{numberRead, ended, refusedAt, numberOf, readTold}
 use Rattle.trace.specs.Number.{reading}
 use Rattle.trace.specs.declared.answer.Read.{Read}
 use Rattle.trace.specs.declared.answer.Read.the-variants.{Number, End, Refused}
@@ -17,8 +17,8 @@ use Rattle.trace.specs.declared.answer.Refusal.the-variants.{Malformed, TooLarg
 use Rattle.parts.specs.Figures.{figureOf}
 use Rattle.parts.specs.FigureLaws.{most, largest}
 use Rattle.parts.specs.declared.figures.Figure.{Figure}
-use Rattle.lines.specs.Lines.{atRest}
-use Rattle.lines.specs.declared.state.State.{State}
+use Rattle.pins.specs.Levels.{atRest}
+use Rattle.pins.specs.declared.state.State.{State}
 use Rattle.chip.specs.Power.{powerUp, filled}
 use Rattle.chip.specs.declared.power.Powered.{Powered}
 use Rattle.trace.specs.Items.{itemEvents}
@@ -29,7 +29,7 @@ use Rattle.bench.specs.Head.{headOf}
 use Rattle.bench.specs.Page.{Page, pageOf, printed}
 use Rattle.bench.specs.Report.{lastText, wholeText, report, reported}
 use Rattle.bench.specs.Run.{itemsFrom, afterItem, afterItems, ranFrom, firstText, powered, started, ran, replayed}
-use Rattle.bench.specs.Stand.{begun}
+use Rattle.bench.specs.Stand.{noEvent}
 use Rattle.bench.specs.declared.head.Head.{Head}
 use Rattle.bench.specs.declared.stand.Stand.{Stand}
 use Rattle.bench.specs.declared.turn.Turn.{Turn}
@@ -62,7 +62,7 @@ module _ (s : List ℕ) (at : ℕ) (found : Read) (t : Turn) (xs os out : List �
   first : (n next : ℕ) → found ≡ Number n next → ranFrom s next (afterItem (benchOf t xs os) n) ≡ ranFrom s at (benchOf t xs os)
   unfolding ranFrom
   first n next is =
-      let e : reading s at ≡ accepted n next = sym read ∙ ap readTold is in
+      let e : reading s at ≡ numberRead n next = sym read ∙ ap readTold is in
       rw (items-on s at, e)
 
   pub ran-number : (n next : ℕ) (r : Turn) (ys ps out′ : List ℕ) → found ≡ Number n next
@@ -82,7 +82,7 @@ module _ (s : List ℕ) (at : ℕ) (found : Read) (t : Turn) (xs os out : List �
       ≡ onPage (pageOf out (t .at)) (ranFrom s at (benchOf t xs os))
   unfolding ranFrom
   ran-refused why p row on is number =
-      let e : reading s at ≡ refused (numberOf why) p = sym read ∙ ap readTold is in
+      let e : reading s at ≡ refusedAt (numberOf why) p = sym read ∙ ap readTold is in
       desk-is (record { refusal = row; stand = t .stand; at = t .at }) xs os out ∙ rw (on, number, items-on s at, e, no-row-is-0 why)
 
 take-replicate : (n m a : ℕ) → n ≤ m → take n (replicate m a) ≡ replicate n a
@@ -101,7 +101,7 @@ replayed-led s os lead f p d led none row e =
 
 -- the start, by what fill, power-up and the printing of line 1 leave
 module _ (lead : Head) (xs os out : List ℕ) (p : Powered) (ys : List ℕ) (s : Stand)
-    (fresh : ys ≡ filled (lead .part) xs) (power : p ≡ powerUp (lead .part) (lead .kept) ys) (first-of : s ≡ begun (p .state)) where
+    (fresh : ys ≡ filled (lead .part) xs) (power : p ≡ powerUp (lead .part) (lead .kept) ys) (first-of : s ≡ noEvent (p .state)) where
   begins : powered lead p ys os ≡ started lead xs os
   unfolding started
   begins = rw (power, fresh)
@@ -132,10 +132,10 @@ ran-on s lead xs os out t ys out′ e =
     carry (ranFrom s (lead .items)) (tells-ran s (lead .items)) t ys os out′ (pageOf out 0) (started lead xs os)
     (λ i. record { refusal = e i .refusal; stand = e i .stand; array = e i .array; shown = os; page = e i .page })
 
--- the whole run, where a number that leads the trace is refused
+-- the whole run, where a number that leads the trace is refusedAt
 pub replayed-not :
     (s os out : List ℕ) (lead : Head) (chip : State) (stand : Stand)
-    → lead ≡ headOf s → (lead .refusal ≡ 0 → ⊥) → chip ≡ atRest 1 0 false → stand ≡ begun chip
+    → lead ≡ headOf s → (lead .refusal ≡ 0 → ⊥) → chip ≡ atRest 1 0 false → stand ≡ noEvent chip
     → deskOf (record { refusal = lead .refusal; stand = stand; at = 0 }) [] os out ≡ onPage (pageOf out 0) (replayed s os)
 unfolding replayed
 replayed-not s os out lead chip stand led h rests new =

@@ -4,7 +4,7 @@ use Prim.Native.Nat.{ℕ}
 use mathlib.Core.Bool.{Bool, cond}
 use mathlib.Core.List.{List, [], _++_}
 use lib.Dec.{eqb}
-use Rattle.lines.specs.declared.state.State.{State}
+use Rattle.pins.specs.declared.state.State.{State}
 use Rattle.chip.specs.Event.{event, written}
 use Rattle.chip.specs.declared.event.Answer.{Answer}
 use Rattle.report.specs.Lines.{selectLine}
@@ -22,8 +22,8 @@ pub record Bench : Type 0 where
   pub shown : List ℕ
   pub text : List ℕ
 
-abbrev pub goesOn : Bench → Bool
-goesOn b = eqb (b .refusal) 0
+abbrev pub runsOn : Bench → Bool
+runsOn b = eqb (b .refusal) 0
 
 -- a refusal came, and all else is as it was
 abbrev pub stopped : Bench → ℕ → Bench
@@ -50,15 +50,15 @@ taken b next stand array shown =
     }
 
 -- "Lent memory stays at every refusal."
-abbrev pub answered : Bench → ℕ → Answer → Bench
-answered b code a =
+abbrev pub afterAnswer : Bench → ℕ → Answer → Bench
+afterAnswer b code a =
     cond (eqb (a .refusal) 0)
     (taken b (a .state) (after (b .stand) code a) (written (a .note) (b .array)) (shownBy (b .shown) (b .stand) code))
     (stopped b (a .refusal))
 
 -- an event on the bench
 unfoldable pub afterEvent : Bench → ℕ → Bench
-afterEvent b code = answered b code (event (b .array) (b .stand .chip) code)
+afterEvent b code = afterAnswer b code (event (b .array) (b .stand .chip) code)
 
 -- ---- the bench as a program has it: the text stands on a page
 

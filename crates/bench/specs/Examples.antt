@@ -4,7 +4,6 @@ use Prim.Native.Nat.{ℕ}
 use mathlib.Core.Bool.{Bool, true, _&&_}
 use mathlib.Core.List.{List, [], _∷_, _++_}
 use lib.Dec.{T}
-use Rattle.trace.specs.Clocked.{clocked}
 use Rattle.trace.specs.Number.{reading}
 use Rattle.parts.specs.Figures.{figureOf}
 use Rattle.parts.specs.Commands.{command}
@@ -13,13 +12,13 @@ use Rattle.stages.specs.Bits.{takeBit, bitOf}
 use Rattle.stages.specs.Sound.{soundStage}
 use Rattle.select.specs.Fall.{showArray, showStatus, fall}
 use Rattle.select.specs.Rise.{opened, codeRise, rise}
-use Rattle.lines.specs.Edges.{csFall, csRise, sckRise, sckFall}
-use Rattle.lines.specs.Sound.{rests, sound}
-use Rattle.lines.specs.Watch.{isOpen, seesRise}
+use Rattle.pins.specs.Edges.{csFall, csRise, sckRise, sckFall}
+use Rattle.pins.specs.Sound.{rests, sound}
+use Rattle.pins.specs.Watch.{isOpen, seesRise}
 use Rattle.chip.specs.Event.{live, step, checks, event, written}
 use Rattle.chip.specs.Examples.Run.{same}
 use Rattle.chip.specs.Power.{fillRefusal, filled, powerRefusal, powerUp}
-use Rattle.trace.specs.Items.{itemEvents}
+use Rattle.trace.specs.Items.{itemEvents, clocked}
 use Rattle.report.specs.Lines.{codeText, shownText, partLine, countsText, selectLine, endLine}
 use Rattle.report.specs.Record.{counted, codeAfter, sampled, risen, shownAfter, noted}
 use Rattle.report.specs.Text.{ascii, capitals, hex, decimal}

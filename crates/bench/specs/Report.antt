@@ -3,7 +3,7 @@ use Prim.Native.Nat.{ℕ}
 use mathlib.Core.Bool.{cond}
 use mathlib.Core.List.{List, [], _++_}
 use lib.ListN.{replicate}
-use Rattle.lines.specs.Watch.{isOpen}
+use Rattle.pins.specs.Watch.{isOpen}
 use Rattle.report.specs.Lines.{endLine}
 use Rattle.report.specs.Record.{mostShown}
 use Rattle.bench.specs.Bench.{Bench, selectText}

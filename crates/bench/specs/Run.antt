@@ -8,20 +8,20 @@ use lib.ListN.{length, replicate}
 use Rattle.trace.specs.Answers.{Told, Value, num, end}
 use Rattle.trace.specs.Number.{reading}
 use Rattle.parts.specs.Figures.{figureOf}
-use Rattle.lines.specs.Lines.{atRest}
+use Rattle.pins.specs.Levels.{atRest}
 use Rattle.chip.specs.Power.{powerUp, filled}
 use Rattle.chip.specs.declared.power.Powered.{Powered}
 use Rattle.trace.specs.Items.{itemEvents}
 use Rattle.report.specs.Lines.{partLine}
-use Rattle.bench.specs.Bench.{Bench, goesOn, stopped, afterEvent}
+use Rattle.bench.specs.Bench.{Bench, runsOn, stopped, afterEvent}
 use Rattle.bench.specs.Head.{headOf}
-use Rattle.bench.specs.Stand.{begun}
+use Rattle.bench.specs.Stand.{noEvent}
 use Rattle.bench.specs.declared.head.Head.{Head}
 
 -- It "stops at the first refusal": events in their order, each where none before it was refused
 abbrev pub afterEvents : Bench → List ℕ → Bench
 afterEvents b [] = b
-afterEvents b (code ∷ codes) = afterEvents (cond (goesOn b) (afterEvent b code) b) codes
+afterEvents b (code ∷ codes) = afterEvents (cond (runsOn b) (afterEvent b code) b) codes
 
 -- "0 to 11 is an event; 12 to 267 is a data byte .. clocked in": the item's events
 unfoldable pub afterItem : Bench → ℕ → Bench
@@ -59,7 +59,7 @@ itemsFrom s at = itemsIn (length s - at) s at
 
 -- it "stops at the first refusal": that of a number counts where no event before it was refused
 abbrev pub endedBy : Bench → ℕ → Bench
-endedBy b refusal = cond (goesOn b) (stopped b refusal) b
+endedBy b refusal = cond (runsOn b) (stopped b refusal) b
 
 -- the items from a place on
 unfoldable pub ranFrom : List ℕ → ℕ → Bench → Bench
@@ -74,7 +74,7 @@ abbrev pub powered : Head → Powered → List ℕ → List ℕ → Bench
 powered lead p array shown =
     record {
       refusal = p .refusal;
-      stand = begun (p .state);
+      stand = noEvent (p .state);
       array = array;
       shown = shown;
       text = firstText lead p;
@@ -92,7 +92,7 @@ ran s lead array shown = ranFrom s (lead .items) (started lead array shown)
 -- "kept bits .. (00 before power-up), latch (0 before power-up)": a number that leads the trace is refused
 abbrev pub notReached : Head → List ℕ → Bench
 notReached lead shown =
-    record { refusal = lead .refusal; stand = begun (atRest 1 0 false); array = []; shown = shown; text = [] }
+    record { refusal = lead .refusal; stand = noEvent (atRest 1 0 false); array = []; shown = shown; text = [] }
 
 -- "It reads both leading numbers before power-up"
 abbrev pub ledBy : List ℕ → Head → List ℕ → Bench

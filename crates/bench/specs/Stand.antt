@@ -3,17 +3,17 @@
 use Prim.Native.Nat.{ℕ}
 use mathlib.Core.Bool.{Bool, cond, not, _&&_}
 use mathlib.Core.List.{List}
-use Rattle.lines.specs.Lines.{soLevel}
-use Rattle.lines.specs.Watch.{isOpen, seesRise}
+use Rattle.pins.specs.Levels.{soLevel}
+use Rattle.pins.specs.Watch.{isOpen, seesRise}
 use Rattle.chip.specs.declared.event.Answer.{Answer}
-use Rattle.lines.specs.declared.state.State.{State}
-use Rattle.report.specs.Record.{counted, fresh, risen, shownAfter, noted}
+use Rattle.pins.specs.declared.state.State.{State}
+use Rattle.report.specs.Record.{counted, noRise, risen, shownAfter, noted}
 use Rattle.report.specs.declared.record.Record.{Record}
 use Rattle.bench.specs.declared.stand.Stand.{Stand}
 
 -- a chip that no event came to
-abbrev pub begun : State → Stand
-begun chip = record { chip = chip; selects = 0; told = fresh }
+abbrev pub noEvent : State → Stand
+noEvent chip = record { chip = chip; selects = 0; told = noRise }
 
 -- a select opens
 abbrev pub opens : State → State → Bool
@@ -38,5 +38,5 @@ shownBy xs s code =
 unfoldable pub after : Stand → ℕ → Answer → Stand
 after s code a =
     cond (opens (s .chip) (a .state))
-    (record { chip = a .state; selects = counted (s .selects); told = fresh })
+    (record { chip = a .state; selects = counted (s .selects); told = noRise })
     (record { chip = a .state; selects = s .selects; told = noted (clockedBy s code) (a .note) })

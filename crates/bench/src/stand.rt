@@ -1,10 +1,10 @@
 // What stands on the bench: the chip, how many selects it saw, and the record of the last of them.
 ghost use mathlib.Core.Path.{_≡_};
-ghost use Rattle.bench.specs.Stand.{closes, begun, clockedBy, shownBy, after};
+ghost use Rattle.bench.specs.Stand.{closes, noEvent, clockedBy, shownBy, after};
 use chip::event::Answer;
-use lines::state::State;
-use lines::watch::is_open;
-use lines::watch::sees_rise;
+use pins::state::State;
+use pins::watch::is_open;
+use pins::watch::sees_rise;
 use report::record::Record;
 use report::record::SHOWN;
 use report::record::count;
@@ -18,7 +18,7 @@ pub struct Stand {
 impl Stand {
     // A chip that no event came to.
     pub fn new(chip: State) -> Stand
-        ensures { λ r. ⌜ r ≡ begun chip ⌝ }
+        ensures { λ r. ⌜ r ≡ noEvent chip ⌝ }
     {
         Stand {
             chip,

@@ -7,7 +7,7 @@ use crate::page::print_select;
 use crate::run::run_whole;
 use crate::stand::Stand;
 use crate::turn::Turn;
-use lines::watch::is_open;
+use pins::watch::is_open;
 use report::record::SHOWN;
 
 // The line of a select left open.

@@ -1,7 +1,7 @@
 -- An answer in the numbers of document 01. Assumes nothing.
 use Prim.Native.Nat.{ℕ}
 use Rattle.select.specs.Notes.{levelNumber, NoteNumbers, noteNumbers}
-use Rattle.lines.specs.declared.state.State.{State}
+use Rattle.pins.specs.declared.state.State.{State}
 use Rattle.chip.specs.declared.event.Answer.{Answer}
 
 -- "The answer to an event: a refusal number or 0; the state; the level of SO after it (0, 1 or released); and one note"

@@ -10,11 +10,11 @@ use Rattle.stages.specs.Close.{isClosed}
 use Rattle.select.specs.declared.notes.Level.the-variants.{Released}
 use Rattle.select.specs.declared.notes.Note.{Note}
 use Rattle.select.specs.declared.notes.Note.the-variants.{Nothing, Latch, Stored, HeldBack, KeptSet, KeptHeldBack, PowerLost}
-use Rattle.lines.specs.Lines.{holdHigh, csLevel, soLevel}
-use Rattle.lines.specs.Edges.{silent, csFall, csRise, sckRise, sckFall, siTo, holdFall, holdRise, wpTo, vddFall, vddRise}
-use Rattle.lines.specs.Sound.{sound}
-use Rattle.lines.specs.declared.state.State.{State}
-use Rattle.lines.specs.declared.state.Moved.{Moved}
+use Rattle.pins.specs.Levels.{holdHigh, csLevel, soLevel}
+use Rattle.pins.specs.Edges.{silent, csFall, csRise, sckRise, sckFall, siTo, holdFall, holdRise, wpTo, vddFall, vddRise}
+use Rattle.pins.specs.Sound.{sound}
+use Rattle.pins.specs.declared.state.State.{State}
+use Rattle.pins.specs.declared.state.Moved.{Moved}
 use Rattle.chip.specs.declared.event.Answer.{Answer}
 use Rattle.chip.specs.declared.event.Stepped.{Stepped}
 

@@ -9,8 +9,8 @@ use borrow.Author.Tests.{eqb-false, eqb-true, eq-eqb, ne-eqb, leb-false}
 use Rattle.parts.specs.Figures.{figureOf, fitsPart}
 use Rattle.parts.specs.declared.figures.Figure.{Figure}
 use Rattle.chip.specs.Event.{checks, event, step, refused, answerOf}
-use Rattle.lines.specs.Sound.{sound}
-use Rattle.lines.specs.declared.state.State.{State}
+use Rattle.pins.specs.Sound.{sound}
+use Rattle.pins.specs.declared.state.State.{State}
 use Rattle.chip.specs.declared.event.Answer.{Answer}
 use Rattle.chip.specs.declared.event.Stepped.{Stepped}
 

@@ -2,7 +2,7 @@
 -- each of its rules from the ways in which it could be misread. A list has one proof. Assumes nothing.
 use mathlib.Core.Bool.{_&&_}
 use lib.Dec.{T}
-use Rattle.trace.specs.Clocked.{clocked}
+use Rattle.trace.specs.Items.{clocked}
 use Rattle.parts.specs.Figures.{figureOf}
 use Rattle.parts.specs.Commands.{command}
 use Rattle.parts.specs.Guards.{firstProtected, mayStore, mayKeep}
@@ -11,9 +11,9 @@ use Rattle.stages.specs.Bits.{takeBit, bitOf}
 use Rattle.stages.specs.Sound.{soundStage}
 use Rattle.select.specs.Fall.{showArray, showStatus, fall}
 use Rattle.select.specs.Rise.{opened, codeRise, upperRise, lowerRise, writeRise, keepRise, rise}
-use Rattle.lines.specs.Edges.{csFall, csRise, sckRise, sckFall, holdFall, holdRise}
-use Rattle.lines.specs.Sound.{rests, sound}
-use Rattle.lines.specs.Watch.{isOpen, seesRise}
+use Rattle.pins.specs.Edges.{csFall, csRise, sckRise, sckFall, holdFall, holdRise}
+use Rattle.pins.specs.Sound.{rests, sound}
+use Rattle.pins.specs.Watch.{isOpen, seesRise}
 use Rattle.chip.specs.Event.{csStayed, live, step, checks, event, written}
 use Rattle.chip.specs.Examples.Run.{allHold}
 use Rattle.chip.specs.Examples.Starred.{starred}

@@ -10,10 +10,10 @@ use Rattle.select.specs.NoteLaws.{level-sole, note-sole}
 use Rattle.chip.specs.Answers.{Paper, paper}
 use Rattle.chip.specs.Power.{powerUp}
 use Rattle.chip.specs.Promises.{EventPromise, FillPromise}
-use Rattle.lines.specs.Sound.{sound}
+use Rattle.pins.specs.Sound.{sound}
 use Rattle.chip.specs.declared.event.Answer.{Answer}
 use Rattle.chip.specs.declared.power.Powered.{Powered}
-use Rattle.lines.specs.declared.state.State.{State}
+use Rattle.pins.specs.declared.state.State.{State}
 
 pub paper-sole : (a b : Answer) → paper a ≡ paper b → a ≡ b
 paper-sole a b e = λ i. record { refusal = e i .refusal; so = so i; note = note i; state = e i .state }

@@ -5,7 +5,7 @@ use mathlib.Core.List.{List}
 use lib.ListN.{length, replicate}
 use lib.Dec.{eqb}
 use Rattle.parts.specs.Figures.{isPart, inMask, fitsPart}
-use Rattle.lines.specs.Lines.{atRest}
+use Rattle.pins.specs.Levels.{atRest}
 use Rattle.chip.specs.declared.power.Powered.{Powered}
 
 -- "Filling a fresh array with 00 checks 1, 2."

@@ -13,7 +13,7 @@ use Rattle.parts.specs.Figures.{figureOf, isPart, inMask, fitsPart}
 use Rattle.parts.specs.FigureLaws.{fair, below-count}
 use Rattle.chip.specs.Power.{fillRefusal, powerRefusal, powerUp}
 use Rattle.chip.specs.declared.power.Powered.{Powered}
-use Rattle.lines.specs.Lines.{atRest}
+use Rattle.pins.specs.Levels.{atRest}
 
 both-passed : (a b : Bool) → _≡_ {A = ℕ} (cond (not a) 1 (cond (not b) 2 0)) 0 → (a ≡ true) × (b ≡ true)
 both-passed false b h = absurd (eqb-false 1 0 refl h)

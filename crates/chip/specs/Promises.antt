@@ -7,7 +7,7 @@ use Rattle.chip.specs.Answers.{paper}
 use Rattle.chip.specs.Event.{event, written}
 use Rattle.chip.specs.Power.{fillRefusal, filled}
 use Rattle.chip.specs.declared.event.Answer.{Answer}
-use Rattle.lines.specs.declared.state.State.{State}
+use Rattle.pins.specs.declared.state.State.{State}
 
 -- an event on the array xs, from the state s: the answer a in the numbers of document 01, and the array ys
 abbrev pub EventPromise : List ℕ → State → ℕ → Answer → List ℕ → Type 0

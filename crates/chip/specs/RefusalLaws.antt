@@ -10,10 +10,10 @@ use lib.ListN.{length}
 use Rattle.parts.specs.Figures.{figureOf}
 use Rattle.laws.specs.TestLaws.{choose}
 use Rattle.parts.specs.declared.figures.Figure.{Figure}
-use Rattle.lines.specs.Edges.{silent, siTo, holdFall, holdRise, wpTo, vddRise}
-use Rattle.lines.specs.Lines.{holdHigh}
-use Rattle.lines.specs.declared.state.State.{State}
-use Rattle.lines.specs.declared.state.Moved.{Moved}
+use Rattle.pins.specs.Edges.{silent, siTo, holdFall, holdRise, wpTo, vddRise}
+use Rattle.pins.specs.Levels.{holdHigh}
+use Rattle.pins.specs.declared.state.State.{State}
+use Rattle.pins.specs.declared.state.Moved.{Moved}
 use Rattle.chip.specs.Event.{accepted, refused, answerOf, csTo, sckTo, holdTo, csStayed, vddTo, live, step, checks, event, written}
 use Rattle.chip.specs.declared.event.Answer.{Answer}
 use Rattle.chip.specs.declared.event.Stepped.{Stepped}

@@ -3,8 +3,8 @@
 use Prim.Native.Nat.{ℕ}
 use mathlib.Core.Bool.{true}
 use mathlib.Core.List.{List, [], _∷_}
-use Rattle.lines.specs.Lines.{atRest}
-use Rattle.lines.specs.declared.state.State.{State}
+use Rattle.pins.specs.Levels.{atRest}
+use Rattle.pins.specs.declared.state.State.{State}
 use Rattle.chip.specs.Event.{event, written}
 use Rattle.chip.specs.Power.{powerUp}
 use Rattle.chip.specs.declared.event.Answer.{Answer}
@@ -22,8 +22,8 @@ abbrev pub poweredUp : ℕ → ℕ → List ℕ → Chip
 poweredUp part kept array = record { state = atRest part kept true; array = array }
 
 -- what the power-up call gives, over the array that was lent to it
-abbrev pub begun : ℕ → ℕ → List ℕ → Chip
-begun part kept array = record { state = powerUp part kept array .state; array = array }
+abbrev pub fromPowerUp : ℕ → ℕ → List ℕ → Chip
+fromPowerUp part kept array = record { state = powerUp part kept array .state; array = array }
 
 -- one event; a refused one changes nothing, as its answer says
 unfoldable pub next : Chip → ℕ → Chip

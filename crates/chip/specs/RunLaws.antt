@@ -11,11 +11,11 @@ use Rattle.parts.specs.declared.figures.Figure.{Figure}
 use Rattle.stages.specs.Close.{drops}
 use Rattle.select.specs.declared.notes.Note.{Note}
 use Rattle.select.specs.declared.notes.Note.the-variants.{Nothing, Latch, Stored, HeldBack, KeptSet, KeptHeldBack, PowerLost}
-use Rattle.lines.specs.Edges.{csFall, csRise, sckRise, sckFall, holdFall, holdRise}
-use Rattle.lines.specs.Lines.{csLevel, holdHigh}
-use Rattle.lines.specs.Sound.{sound}
-use Rattle.lines.specs.declared.state.State.{State}
-use Rattle.lines.specs.declared.state.Moved.{Moved}
+use Rattle.pins.specs.Edges.{csFall, csRise, sckRise, sckFall, holdFall, holdRise}
+use Rattle.pins.specs.Levels.{csLevel, holdHigh}
+use Rattle.pins.specs.Sound.{sound}
+use Rattle.pins.specs.declared.state.State.{State}
+use Rattle.pins.specs.declared.state.Moved.{Moved}
 use Rattle.chip.specs.Event.{csTo, sckTo, holdTo, csStayed, vddTo, live, step, checks, event, written}
 use Rattle.chip.specs.Run.{Chip, next, run}
 use Rattle.chip.specs.SoundLaws.{event-sound}

@@ -9,17 +9,17 @@ use lib.ListN.{length}
 use lib.Dec.{eqb}
 use Rattle.parts.specs.Figures.{figureOf}
 use Rattle.laws.specs.TestLaws.{choose}
-use Rattle.lines.specs.Edges.{holdFall, holdRise}
+use Rattle.pins.specs.Edges.{holdFall, holdRise}
 use Rattle.chip.specs.Event.{csTo, sckTo, holdTo, csStayed, vddTo, live, dark, step, checks, event}
 use Rattle.chip.specs.EventLaws.{checks-passed, accepted-passed}
-use Rattle.lines.specs.Lines.{atRest, csLevel, holdHigh}
+use Rattle.pins.specs.Levels.{atRest, csLevel, holdHigh}
 use Rattle.chip.specs.Power.{powerRefusal, powerUp}
 use Rattle.chip.specs.PowerLaws.{part-and-size, fill-and-mask}
-use Rattle.lines.specs.Sound.{sound}
-use Rattle.lines.specs.declared.state.State.{State}
+use Rattle.pins.specs.Sound.{sound}
+use Rattle.pins.specs.declared.state.State.{State}
 use Rattle.chip.specs.declared.event.Stepped.{Stepped}
 use Rattle.chip.specs.declared.power.Powered.{Powered}
-use Rattle.lines.specs.SoundLaws.{good, rest-sound, Sound, Keeps, kept-on, cs-fall, cs-rise, sck-rise, sck-fall}
+use Rattle.pins.specs.SoundLaws.{good, rest-sound, Sound, Keeps, kept-on, cs-fall, cs-rise, sck-rise, sck-fall}
 
 abbrev Answers : Stepped → Type 0
 Answers t = Sound (t .state)

@@ -10,17 +10,17 @@ use lib.Dec.{eqb}
 use Rattle.parts.specs.Figures.{figureOf}
 use Rattle.laws.specs.TestLaws.{left, right, choose}
 use Rattle.parts.specs.declared.figures.Figure.{Figure}
-use Rattle.stages.specs.Bits.{fresh}
+use Rattle.stages.specs.Bits.{noBits}
 use Rattle.stages.specs.Close.{isClosed, drops}
 use Rattle.stages.specs.declared.stage.Stage.{Stage}
 use Rattle.stages.specs.declared.stage.Stage.the-variants.{Closed, Code}
 use Rattle.select.specs.Rise.{rise}
-use Rattle.lines.specs.Edges.{silent, withSck, seenBy, rose, shown, csFall, csRise, sckRise, sckFall, holdFall, holdRise}
-use Rattle.lines.specs.Lines.{holdHigh, csLevel}
-use Rattle.lines.specs.SoundLaws.{closed-is}
-use Rattle.lines.specs.Watch.{isOpen, seesRise}
-use Rattle.lines.specs.declared.state.State.{State}
-use Rattle.lines.specs.declared.state.Moved.{Moved}
+use Rattle.pins.specs.Edges.{silent, withSck, seenBy, rose, shown, csFall, csRise, sckRise, sckFall, holdFall, holdRise}
+use Rattle.pins.specs.Levels.{holdHigh, csLevel}
+use Rattle.pins.specs.SoundLaws.{closed-is}
+use Rattle.pins.specs.Watch.{isOpen, seesRise}
+use Rattle.pins.specs.declared.state.State.{State}
+use Rattle.pins.specs.declared.state.Moved.{Moved}
 use Rattle.chip.specs.Event.{accepted, csTo, sckTo, holdTo, csStayed, vddTo, live, dark, step, event}
 use Rattle.chip.specs.EventLaws.{accepted-steps}
 use Rattle.chip.specs.declared.event.Stepped.{Stepped}
@@ -28,7 +28,7 @@ use Rattle.chip.specs.declared.event.Stepped.{Stepped}
 -- the stage after an event that takes no bit: as it was, or a select opened or closed, or a fall of SCK
 pub data Unclocked (f : Figure) (xs : List ℕ) (s : State) : Stage → Type 0 where
   same : Unclocked f xs s (s .stage)
-  opens : Unclocked f xs s (Code fresh)
+  opens : Unclocked f xs s (Code noBits)
   closes : Unclocked f xs s Closed
   falls : Unclocked f xs s (shown f xs s)
 

@@ -2,13 +2,13 @@
 ghost use mathlib.Core.Path.{_≡_};
 ghost use Rattle.chip.specs.Event.{accepted, refused, answerOf, csTo, sckTo, csStayed, holdUp, holdTo, vddTo, live, dark, step, checks, written};
 ghost use Rattle.chip.specs.Promises.{EventPromise};
-ghost use Rattle.lines.specs.Edges.{siTo, wpTo};
-use lines::hold::hold_high;
-use lines::sound::sound;
-use lines::state::Moved;
-use lines::state::State;
+ghost use Rattle.pins.specs.Edges.{siTo, wpTo};
 use parts::figures::Figure;
 use parts::figures::figure_of;
+use pins::hold::hold_high;
+use pins::sound::sound;
+use pins::state::Moved;
+use pins::state::State;
 use select::notes::Level;
 use select::notes::Note;
 use stages::close::is_closed;

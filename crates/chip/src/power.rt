@@ -3,9 +3,9 @@ ghost use mathlib.Core.Path.{_≡_};
 ghost use lib.ListN.{length, replicate};
 ghost use Rattle.chip.specs.Power.{powerRefusal, powerUp, fillRefusal};
 ghost use Rattle.chip.specs.Promises.{FillPromise};
-use lines::state::State;
 use parts::figures::figure_of;
 use parts::figures::is_part;
+use pins::state::State;
 
 pub struct Powered {
     pub refusal: u8,

@@ -14,7 +14,7 @@ use chip::power::fill;
 use chip::power::power_up;
 use libc::STDIN_FILENO;
 use libc::STDOUT_FILENO;
-use lines::state::State;
+use pins::state::State;
 use select::notes::Level;
 use select::notes::Note;
 use stages::stage::Stage;

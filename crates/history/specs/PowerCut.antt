@@ -7,10 +7,10 @@ use mathlib.Core.List.{List, [], _∷_, _++_}
 use mathlib.Core.Path.{_≡_, ap, _∙_}
 use lib.ListN.{take}
 use Rattle.parts.specs.FigureLaws.{fair}
-use Rattle.lines.specs.declared.state.State.{State}
+use Rattle.pins.specs.declared.state.State.{State}
 use Rattle.chip.specs.Event.{event}
 use Rattle.chip.specs.Power.{powerUp}
-use Rattle.chip.specs.Run.{Chip, begun, poweredUp, run}
+use Rattle.chip.specs.Run.{Chip, fromPowerUp, poweredUp, run}
 use Rattle.chip.specs.PowerLaws.{power-one, power-masked, power-fits, power-state}
 use Rattle.history.specs.History.{World, history}
 use Rattle.history.specs.Wire.{rest, refusal, afterAll}
@@ -20,17 +20,17 @@ use Rattle.history.specs.Laws.Place.{outside}
 use Rattle.history.specs.Laws.Step.{asleep}
 
 module _ (part kept : ℕ) (array codes : List ℕ) (accepted : powerUp part kept array .refusal ≡ 0) where
-  starts : begun part kept array ≡ poweredUp part kept array
+  starts : fromPowerUp part kept array ≡ poweredUp part kept array
   starts = ap (λ (s : State). record { state = s; array = array }) (power-state part kept array accepted)
 
   reached : (sent : List ℕ) → Reached part (rest true) outside (asleep kept array) (poweredUp part kept array) sent
   reached = reached-from part kept array (power-one part kept array accepted) (power-masked part kept array accepted) (power-fits part kept array accepted)
 
-  moment : (sent : List ℕ) → worldOf (run (begun part kept array) sent) ≡ history part kept array sent
+  moment : (sent : List ℕ) → worldOf (run (fromPowerUp part kept array) sent) ≡ history part kept array sent
   moment sent = ap (λ (c : Chip). worldOf (run c sent)) starts ∙ world-told part kept array sent (reached sent)
 
   -- At every moment, with power on or off, the latch, the kept bits and the array are the history's.
-  pub every-moment : worldOf (run (begun part kept array) codes) ≡ history part kept array codes
+  pub every-moment : worldOf (run (fromPowerUp part kept array) codes) ≡ history part kept array codes
   every-moment = moment codes
 
   -- "Take any list of events from power-up, over one array that nobody else changes, and cut the supply before the first or
@@ -39,7 +39,7 @@ module _ (part kept : ℕ) (array codes : List ℕ) (accepted : powerUp part kep
   -- Event 10 cuts the supply after the first n events, event 11 returns it: the state is then the power-up state, whole.
   pub power-cut :
       (n : ℕ)
-      → run (begun part kept array) (take n codes ++ 10 ∷ 11 ∷ [])
+      → run (fromPowerUp part kept array) (take n codes ++ 10 ∷ 11 ∷ [])
       ≡ poweredUp part (history part kept array (take n codes) .kept) (history part kept array (take n codes) .array)
   power-cut n =
       ap (λ (c : Chip). run c (take n codes ++ 10 ∷ 11 ∷ [])) starts
@@ -51,7 +51,7 @@ module _ (part kept : ℕ) (array codes : List ℕ) (accepted : powerUp part kep
   -- moment and by the same number.
   pub refused-alike :
       (code : ℕ)
-      → event (run (begun part kept array) codes .array) (run (begun part kept array) codes .state) code .refusal
+      → event (run (fromPowerUp part kept array) codes .array) (run (fromPowerUp part kept array) codes .state) code .refusal
       ≡ refusal (afterAll (rest true) codes) code
   refused-alike code =
       ap (λ (c : Chip). event (run c codes .array) (run c codes .state) code .refusal) starts

@@ -5,7 +5,7 @@ use mathlib.Core.List.{List}
 use lib.Bits.{bitOr}
 use lib.Dec.{leb, ltb}
 use lib.ListN.{set}
-use Rattle.stages.specs.Bits.{lowBit, takeBit, fresh as noBits}
+use Rattle.stages.specs.Bits.{lowBit, takeBit, noBits}
 use Rattle.stages.specs.declared.bits.Taken.{Taken}
 use Rattle.stages.specs.declared.bits.Taken.the-variants.{Part, Whole}
 use Rattle.select.specs.declared.notes.Level.{Level}
@@ -19,8 +19,8 @@ unfoldable pub counted : ℕ → ℕ
 counted n = cond (ltb n 0xFFFFFFFFFFFFFFFF) (n + 1) n
 
 -- a select that no rise was seen in
-abbrev pub fresh : Record
-fresh = record { clocks = 0; code = 0; sample = noBits; shown = 0; stored = 0 }
+abbrev pub noRise : Record
+noRise = record { clocks = 0; code = 0; sample = noBits; shown = 0; stored = 0 }
 
 -- "The first eight bits are the op-code": the clocks that it takes
 abbrev pub codeClocks : ℕ

@@ -1,6 +1,6 @@
 // A select's record: what its line tells, by value; beside it, in a lent buffer, the first bytes of SO.
 ghost use mathlib.Core.Path.{_≡_};
-ghost use Rattle.report.specs.Record.{counted, sampled, codeAfter, keptAt, fresh, risen, shownAfter, noted};
+ghost use Rattle.report.specs.Record.{counted, sampled, codeAfter, keptAt, noRise, risen, shownAfter, noted};
 use select::notes::Level;
 use select::notes::Note;
 use stages::bits::NO_BITS;
@@ -64,7 +64,7 @@ fn keep(shown: &mut [u8; SHOWN], at: u64, byte: u8)
 impl Record {
     // A select that no rise was seen in.
     pub fn new() -> Record
-        ensures { λ r. ⌜ r ≡ fresh ⌝ }
+        ensures { λ r. ⌜ r ≡ noRise ⌝ }
     {
         Record {
             clocks: 0,

@@ -8,7 +8,7 @@ use Rattle.parts.specs.declared.figures.Figure.{Figure}
 use Rattle.parts.specs.declared.commands.Command.{Command}
 use Rattle.parts.specs.declared.commands.Command.the-variants.{Wren, Wrdi, Rdsr, Wrsr, Read, Write, Other}
 use Rattle.parts.specs.declared.guards.Verdict as verdict
-use Rattle.stages.specs.Bits.{fresh, takeBit}
+use Rattle.stages.specs.Bits.{noBits, takeBit}
 use Rattle.stages.specs.Address.{afterCode, upperPage, afterAddress, nextAddress}
 use Rattle.select.specs.declared.notes.Note.{Note}
 use Rattle.select.specs.declared.notes.Note.the-variants.{Nothing, Latch, Stored, HeldBack, KeptSet, KeptHeldBack}
@@ -34,18 +34,18 @@ abbrev pub latched : Seen → Bool → Risen
 latched seen on = record { stage = Over Quiet; latch = on; kept = seen .kept; note = Latch on }
 
 -- "Other op-codes .. do nothing (one op-code per select)."
-abbrev pub begun : Figure → Seen → ℕ → Command → Risen
-begun f seen code Wren = latched seen true
-begun f seen code Wrdi = latched seen false
-begun f seen code Rdsr = quiet seen (Ready Status 0)
-begun f seen code Wrsr = quiet seen (Keeping fresh)
-begun f seen code Read = quiet seen (afterCode f ToRead code)
-begun f seen code Write = quiet seen (afterCode f ToWrite code)
-begun f seen code Other = quiet seen (Over Quiet)
+abbrev pub begins : Figure → Seen → ℕ → Command → Risen
+begins f seen code Wren = latched seen true
+begins f seen code Wrdi = latched seen false
+begins f seen code Rdsr = quiet seen (Ready Status 0)
+begins f seen code Wrsr = quiet seen (Keeping noBits)
+begins f seen code Read = quiet seen (afterCode f ToRead code)
+begins f seen code Write = quiet seen (afterCode f ToWrite code)
+begins f seen code Other = quiet seen (Over Quiet)
 
 -- "The first eight bits are the op-code"
 unfoldable pub opened : Figure → Seen → ℕ → Risen
-opened f seen code = begun f seen code (command (f .ops) code)
+opened f seen code = begins f seen code (command (f .ops) code)
 
 abbrev pub codeTaken : Figure → Seen → Taken → Risen
 codeTaken f seen (Part more) = quiet seen (Code more)
@@ -57,7 +57,7 @@ codeRise f seen shift = codeTaken f seen (takeBit shift (seen .si))
 -- the upper address byte
 abbrev pub upperTaken : Figure → Seen → Purpose → Taken → Risen
 upperTaken f seen purpose (Part more) = quiet seen (Upper purpose more)
-upperTaken f seen purpose (Whole byte) = quiet seen (Lower purpose fresh (upperPage f byte))
+upperTaken f seen purpose (Whole byte) = quiet seen (Lower purpose noBits (upperPage f byte))
 
 unfoldable pub upperRise : Figure → Seen → Purpose → ℕ → Risen
 upperRise f seen purpose shift = upperTaken f seen purpose (takeBit shift (seen .si))
@@ -81,7 +81,7 @@ abbrev pub writeTaken : Figure → Seen → Came → ℕ → Taken → Risen
 writeTaken f seen came at (Part more) = quiet seen (Writing came more at)
 writeTaken f seen came at (Whole byte) =
     record {
-      stage = Writing Bytes fresh (nextAddress f at);
+      stage = Writing Bytes noBits (nextAddress f at);
       latch = seen .latch;
       kept = seen .kept;
       note = storeNote at byte (mayStore f (seen .latch) (seen .kept) (seen .wp) at);

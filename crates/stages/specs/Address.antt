@@ -4,7 +4,7 @@ use mathlib.Core.Bool.{cond}
 use lib.Dec.{eqb, leb}
 use lib.Bits.{bitAnd}
 use Rattle.parts.specs.declared.figures.Figure.{Figure}
-use Rattle.stages.specs.Bits.{fresh}
+use Rattle.stages.specs.Bits.{noBits}
 use Rattle.stages.specs.declared.stage.Stage.{Stage}
 use Rattle.stages.specs.declared.stage.Stage.the-variants.{Upper, Lower, Ready, Writing}
 use Rattle.stages.specs.declared.stage.Purpose.{Purpose}
@@ -23,12 +23,12 @@ upperPage f byte = bitAnd byte (f .upper)
 -- the stage after the op-code of a READ or WRITE
 unfoldable pub afterCode : Figure → Purpose → ℕ → Stage
 afterCode f purpose code =
-    cond (eqb (f .«address_bytes») 2) (Upper purpose fresh) (Lower purpose fresh (codePage f code))
+    cond (eqb (f .«address_bytes») 2) (Upper purpose noBits) (Lower purpose noBits (codePage f code))
 
 -- the stage after the whole address
 unfoldable pub afterAddress : Purpose → ℕ → ℕ → Stage
 afterAddress ToRead page byte = Ready Array (page * 256 + byte)
-afterAddress ToWrite page byte = Writing NoByte fresh (page * 256 + byte)
+afterAddress ToWrite page byte = Writing NoByte noBits (page * 256 + byte)
 
 -- "then the next address, rolling from the last to 0"
 unfoldable pub nextAddress : Figure → ℕ → ℕ

@@ -10,8 +10,8 @@ use Rattle.stages.specs.declared.bits.Taken.{Taken}
 use Rattle.stages.specs.declared.bits.Taken.the-variants.{Part, Whole}
 
 -- the bits of a byte that came so far are one number with a 1 before them; no bit yet
-abbrev pub fresh : ℕ
-fresh = 1
+abbrev pub noBits : ℕ
+noBits = 1
 
 -- a level as a number
 abbrev pub lowBit : Bool → ℕ

@@ -11,7 +11,7 @@ use Rattle.parts.specs.FigureLaws.{Fair}
 use Rattle.laws.specs.TestLaws.{both, left, right}
 use Rattle.parts.specs.declared.figures.Figure.{Figure}
 use Rattle.stages.specs.Address.{codePage, afterCode, afterAddress, nextAddress}
-use Rattle.stages.specs.Bits.{fresh, lowBit, shifted, takeBit}
+use Rattle.stages.specs.Bits.{noBits, lowBit, shifted, takeBit}
 use Rattle.stages.specs.Sound.{soundShift, soundStage}
 use Rattle.stages.specs.declared.stage.Purpose.{Purpose}
 use Rattle.stages.specs.declared.stage.Purpose.the-variants.{ToRead, ToWrite}
@@ -80,7 +80,7 @@ module _ (f : Figure) (fair : Fair f) where
   after-code purpose code = go (eqb (f .«address_bytes») 2) refl
     where
       go : (t : Bool) → eqb (f .«address_bytes») 2 ≡ t
-          → soundStage f (cond t (Upper purpose fresh) (Lower purpose fresh (codePage f code))) ≡ true
+          → soundStage f (cond t (Upper purpose noBits) (Lower purpose noBits (codePage f code))) ≡ true
       go true e = rw e
       go false e = rw (lt-ltb (codePage f code * 256) (f .size) (within (code-page code)))
 

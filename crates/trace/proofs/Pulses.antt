@@ -10,8 +10,7 @@ use lib.Dec.{eqb}
 use lib.ListN.{length, getD, List·getD-eq-default}
 use mathlib.Core.Bool.{cond}
 use Rattle.trace.specs.Figures.{firstByte, byteEvents}
-use Rattle.trace.specs.Items.{itemEvents}
-use Rattle.trace.specs.Clocked.{pulses, clocked}
+use Rattle.trace.specs.Items.{itemEvents, pulses, clocked}
 use Rattle.laws.specs.Bits.{bitAt}
 
 -- the event at a place of a pulse, and the bit that is due

@@ -17,21 +17,21 @@ pub record Told : Type 0 where
   pub value : Value
   pub place : ℕ
 
--- "An accepted read gives the number and the place after it"
-abbrev pub accepted : ℕ → ℕ → Told
-accepted n next = record { refusal = 0; value = num n; place = next }
+-- "An numberRead read gives the number and the place after it"
+abbrev pub numberRead : ℕ → ℕ → Told
+numberRead n next = record { refusal = 0; value = num n; place = next }
 
 -- "Reading at the slice's very end answers "end"." The place is the end's own.
 abbrev pub ended : ℕ → Told
 ended at = record { refusal = 0; value = end; place = at }
 
--- "an accepted write gives the place after it": the value that it gives is 0
+-- "an numberRead write gives the place after it": the value that it gives is 0
 abbrev pub placed : ℕ → Told
 placed next = record { refusal = 0; value = num 0; place = next }
 
--- "A refused read or write returns its number, the value 0 and the place given."
-abbrev pub refused : ℕ → ℕ → Told
-refused row at = record { refusal = row; value = num 0; place = at }
+-- "A refusedAt read or write returns its number, the value 0 and the place given."
+abbrev pub refusedAt : ℕ → ℕ → Told
+refusedAt row at = record { refusal = row; value = num 0; place = at }
 
 -- the rows of "Refusals and their order"
 abbrev pub numberOf : Refusal → ℕ
@@ -45,10 +45,10 @@ numberOf Beyond = 10
 numberOf NoRoom = 11
 
 abbrev pub readTold : Read → Told
-readTold (read.Number n next) = accepted n next
+readTold (read.Number n next) = numberRead n next
 readTold (read.End at) = ended at
-readTold (read.Refused why at) = refused (numberOf why) at
+readTold (read.Refused why at) = refusedAt (numberOf why) at
 
 abbrev pub writtenTold : Written → Told
 writtenTold (written.Placed next) = placed next
-writtenTold (written.Refused why at) = refused (numberOf why) at
+writtenTold (written.Refused why at) = refusedAt (numberOf why) at

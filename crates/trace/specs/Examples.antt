@@ -3,9 +3,9 @@
 use mathlib.Core.Path.{_≡_, refl}
 use mathlib.Core.List.{List, [], _∷_, map}
 use Prim.Native.Nat.{ℕ, _+_}
-use Rattle.trace.specs.Answers.{Told, accepted, ended, placed, refused}
+use Rattle.trace.specs.Answers.{Told, numberRead, ended, placed, refusedAt}
 use Rattle.trace.specs.Form.{form}
-use Rattle.trace.specs.Number.{reading, writing, written}
+use Rattle.trace.specs.Number.{reading, writing, sliceWritten}
 
 -- a call on a slice, and its outcome: what it tells, and the slice at exit
 data Call : Type 0 where
@@ -18,7 +18,7 @@ record Outcome : Type 0 where
 
 outcome : Call → Outcome
 outcome (reads s at) = record { told = reading s at; left = s }
-outcome (writes s at n) = record { told = writing s at n; left = written s at n }
+outcome (writes s at n) = record { told = writing s at n; left = sliceWritten s at n }
 
 record Example : Type 0 where
   call : Call
@@ -44,37 +44,37 @@ examples =
     write (0x55 ∷ 0x55 ∷ 0x55 ∷ []) 1 (item 0x73) (placed 2) (0x55 ∷ 0x7F ∷ 0x55 ∷ [])
     ∷ write (0x55 ∷ 0x55 ∷ 0x55 ∷ []) 1 (item 0x74) (placed 3) (0x55 ∷ 0x80 ∷ 0x01 ∷ [])
     ∷ write (0x55 ∷ 0x55 ∷ 0x55 ∷ []) 0 (item 0xFF) (placed 2) (0x8B ∷ 0x02 ∷ 0x55 ∷ [])
-    ∷ read (0x7F ∷ 0x80 ∷ 0x01 ∷ 0x8B ∷ 0x02 ∷ []) 0 (accepted (item 0x73) 1)
-    ∷ read (0x7F ∷ 0x80 ∷ 0x01 ∷ 0x8B ∷ 0x02 ∷ []) 1 (accepted (item 0x74) 3)
-    ∷ read (0x7F ∷ 0x80 ∷ 0x01 ∷ 0x8B ∷ 0x02 ∷ []) 3 (accepted (item 0xFF) 5)
+    ∷ read (0x7F ∷ 0x80 ∷ 0x01 ∷ 0x8B ∷ 0x02 ∷ []) 0 (numberRead (item 0x73) 1)
+    ∷ read (0x7F ∷ 0x80 ∷ 0x01 ∷ 0x8B ∷ 0x02 ∷ []) 1 (numberRead (item 0x74) 3)
+    ∷ read (0x7F ∷ 0x80 ∷ 0x01 ∷ 0x8B ∷ 0x02 ∷ []) 3 (numberRead (item 0xFF) 5)
     -- "Reading at the slice's very end answers "end"."
     ∷ read (0x7F ∷ 0x80 ∷ 0x01 ∷ 0x8B ∷ 0x02 ∷ []) 5 (ended 5)
     ∷ read [] 0 (ended 0)
     -- 15. "Numbers 267 and 268 (8C 02): read, 9."
-    ∷ read (0x8B ∷ 0x02 ∷ []) 0 (accepted 267 2)
-    ∷ read (0x8C ∷ 0x02 ∷ []) 0 (refused 9 0)
-    ∷ write (0x55 ∷ 0x55 ∷ []) 0 268 (refused 9 0) (0x55 ∷ 0x55 ∷ [])
+    ∷ read (0x8B ∷ 0x02 ∷ []) 0 (numberRead 267 2)
+    ∷ read (0x8C ∷ 0x02 ∷ []) 0 (refusedAt 9 0)
+    ∷ write (0x55 ∷ 0x55 ∷ []) 0 268 (refusedAt 9 0) (0x55 ∷ 0x55 ∷ [])
     -- 15. "Bytes 80 00 and a lone 80: 8."
-    ∷ read (0x80 ∷ 0x00 ∷ []) 0 (refused 8 0)
-    ∷ read (0x80 ∷ []) 0 (refused 8 0)
+    ∷ read (0x80 ∷ 0x00 ∷ []) 0 (refusedAt 8 0)
+    ∷ read (0x80 ∷ []) 0 (refusedAt 8 0)
     -- 8 "over two bytes", whatever its value: 8 comes before 9
-    ∷ read (0x80 ∷ 0x80 ∷ 0x01 ∷ []) 0 (refused 8 0)
-    ∷ read (0xFF ∷ 0xFF ∷ 0x7F ∷ []) 0 (refused 8 0)
+    ∷ read (0x80 ∷ 0x80 ∷ 0x01 ∷ []) 0 (refusedAt 8 0)
+    ∷ read (0xFF ∷ 0xFF ∷ 0x7F ∷ []) 0 (refusedAt 8 0)
     -- 10 "place beyond the slice's end"; 9 comes before it in a write
-    ∷ read (0x7F ∷ []) 2 (refused 10 2)
-    ∷ write (0x55 ∷ []) 2 0 (refused 10 2) (0x55 ∷ [])
-    ∷ write (0x55 ∷ []) 2 268 (refused 9 2) (0x55 ∷ [])
+    ∷ read (0x7F ∷ []) 2 (refusedAt 10 2)
+    ∷ write (0x55 ∷ []) 2 0 (refusedAt 10 2) (0x55 ∷ [])
+    ∷ write (0x55 ∷ []) 2 268 (refusedAt 9 2) (0x55 ∷ [])
     -- "11 is given when fewer bytes remain than the number's form takes"
-    ∷ write (0x55 ∷ []) 0 128 (refused 11 0) (0x55 ∷ [])
-    ∷ write (0x55 ∷ []) 1 0 (refused 11 1) (0x55 ∷ [])
-    ∷ write [] 0 0 (refused 11 0) []
+    ∷ write (0x55 ∷ []) 0 128 (refusedAt 11 0) (0x55 ∷ [])
+    ∷ write (0x55 ∷ []) 1 0 (refusedAt 11 1) (0x55 ∷ [])
+    ∷ write [] 0 0 (refusedAt 11 0) []
     ∷ write (0x55 ∷ 0x55 ∷ []) 1 127 (placed 2) (0x55 ∷ 0x7F ∷ [])
     -- the largest place and value that there are
-    ∷ read (0x7F ∷ []) top (refused 10 top)
-    ∷ write (0x55 ∷ []) top 0 (refused 10 top) (0x55 ∷ [])
-    ∷ write (0x55 ∷ []) 0 top (refused 9 0) (0x55 ∷ [])
+    ∷ read (0x7F ∷ []) top (refusedAt 10 top)
+    ∷ write (0x55 ∷ []) top 0 (refusedAt 10 top) (0x55 ∷ [])
+    ∷ write (0x55 ∷ []) 0 top (refusedAt 9 0) (0x55 ∷ [])
     ∷ []
 
 all-hold : map (λ (e : Example). outcome (e .call)) examples ≡ map (λ (e : Example). e .gives) examples
-unfolding examples outcome read write item top reading writing written form
+unfolding examples outcome read write item top reading writing sliceWritten form
 all-hold = refl

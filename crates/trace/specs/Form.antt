@@ -6,7 +6,9 @@ use Prim.Native.Nat.{ℕ, zero, suc, _+_, _*_, _/_, _%_}
 use mathlib.Core.Bool.{Bool, true, cond, _&&_, _||_}
 use mathlib.Core.List.{List, [], _∷_}
 use lib.Dec.{leb, ltb, eqb}
-use lib.ListN.{length}
+use lib.ListN.{length, drop}
+use Rattle.trace.specs.declared.number.Shape.{Shape}
+use Rattle.trace.specs.declared.number.Shape.the-variants.{Whole, Misshapen}
 
 -- "the top bit set": a byte that is not its number's last
 abbrev pub goesOn : ℕ → Bool
@@ -52,3 +54,10 @@ spelt (suc k) n = let more = (128 + n % 128) ∷ spelt k (n / 128) in cond (ltb 
 -- "shortest form only": the one form of n
 unfoldable pub form : ℕ → List ℕ
 form n = spelt n n
+
+-- what `scan` finds: the number that begins at a place, in a given number of groups at most
+abbrev pub shape : ℕ → List ℕ → ℕ → Shape
+shape room bs at = cond (misshapen room bs) Misshapen (Whole (value bs) (at + length bs))
+
+unfoldable pub scanned : List ℕ → ℕ → ℕ → Shape
+scanned s at room = shape room (bytes (drop at s)) at

@@ -1,10 +1,23 @@
--- The items of a trace as events (document 01, "Trace numbers"). Assumes nothing.
-use Prim.Native.Nat.{ℕ, _-_}
-use mathlib.Core.List.{List, [], _∷_}
-use lib.Dec.{ltb}
+-- The items of a trace as events, a data byte as the events that clock it in (document 01, "Trace numbers"). Assumes nothing.
+use Prim.Native.Nat.{ℕ, zero, suc, _+_, _-_}
 use mathlib.Core.Bool.{cond}
-use Rattle.trace.specs.Clocked.{clocked}
+use mathlib.Core.List.{List, [], _∷_, _++_}
+use lib.Dec.{ltb}
+use Rattle.laws.specs.Bits.{bitAt}
 use Rattle.trace.specs.Figures.{firstByte}
+
+-- "SI, SCK up, SCK down": event 4 or 5 by the bit, then 3, then 2
+abbrev pub pulse : ℕ → List ℕ
+pulse bit = (4 + bit) ∷ 3 ∷ 2 ∷ []
+
+-- the pulses of a byte's lowest `bits` bits, the "most significant bit first"
+abbrev pub pulses : ℕ → ℕ → List ℕ
+pulses zero byte = []
+pulses (suc i) byte = pulse (bitAt byte i) ++ pulses i byte
+
+-- "clocked in as eight times SI, SCK up, SCK down"
+unfoldable pub clocked : ℕ → List ℕ
+clocked byte = pulses 8 byte
 
 -- "0 to 11 is an event; 12 to 267 is a data byte, the number less 12"
 unfoldable pub itemEvents : ℕ → List ℕ

@@ -2,9 +2,7 @@ pub mod Figures
 pub mod Answers
 pub mod Form
 pub mod Number
-pub mod Clocked
 pub mod Items
-pub mod Scan
 pub mod Reader
 pub mod Promises
 pub mod ByteLaws

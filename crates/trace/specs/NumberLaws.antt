@@ -1,5 +1,5 @@
 -- The laws of trace numbers, over the definitions that the contracts cite.
---     reads-back, write-reads-back     a number that is written reads back as written, with the place after it, whatever stands around it
+--     reads-back, write-reads-back     a number that is sliceWritten reads back as sliceWritten, with the place after it, whatever stands around it
 --     read-form, one-form              each number has one form only: two byte strings that read as one number are the same bytes
 --     form-fits, form-shortest         the form has at most `groups` bytes, and no bytes of the same value are fewer
 --     forward, less-left               reading moves forward, and stays in the slice; so a loop over it ends
@@ -14,9 +14,9 @@ use borrow.Author.Tests.{le-ltb, lt-ltb}
 use lib.ListN.{length, getD, take, drop, length-append, length-drop}
 use lib.Seq.{drop-append-seam, drop-at, length-take-le, take-add, getD-drop, slice}
 use Rattle.trace.specs.Figures.{groups, largest}
-use Rattle.trace.specs.Answers.{Told, accepted, ended, placed, refused, readTold}
+use Rattle.trace.specs.Answers.{Told, numberRead, ended, placed, refusedAt, readTold}
 use Rattle.trace.specs.Form.{bytes, value, form}
-use Rattle.trace.specs.Number.{reading, writing, over, written}
+use Rattle.trace.specs.Number.{reading, writing, over, sliceWritten}
 use Rattle.trace.specs.Promises.{ReadPromise}
 use Rattle.trace.specs.declared.answer.Read.{Read}
 use Rattle.trace.specs.declared.answer.Read.the-variants.{Number}
@@ -43,22 +43,22 @@ value-small (b ∷ bs) = let h = value-small bs in omega (arith, pow-succ' 128 (
 pub form-shortest : (b : ℕ) (bs : List ℕ) → length (form (value (b ∷ bs))) ≤ length (b ∷ bs)
 form-shortest b bs = few (form-spells (length bs) (value (b ∷ bs)) (value-small (b ∷ bs)))
 
--- ---- a number that is written reads back as written
+-- ---- a number that is sliceWritten reads back as sliceWritten
 
-there : (s ys : List ℕ) (at n : ℕ) → n ≤ largest → at ≤ length s → drop at s ≡ form n ++ ys → reading s at ≡ accepted n (at + length (form n))
+there : (s ys : List ℕ) (at n : ℕ) → n ≤ largest → at ≤ length s → drop at s ≡ form n ++ ys → reading s at ≡ numberRead n (at + length (form n))
 there s ys at n h p e =
     let f = form-of n h in
     let d = simp (length-drop, length-append) at (ap length e) in
     let inside : at < length s = omega (arith, d, some-bytes f) in
     reading-inside s at inside ∙ ap (sized at) (scanned-spelt s ys at e f) ∙ simp (le-ltb largest n h)
 
-pub reads-back : (xs ys : List ℕ) (n : ℕ) → n ≤ largest → reading (xs ++ (form n ++ ys)) (length xs) ≡ accepted n (length xs + length (form n))
+pub reads-back : (xs ys : List ℕ) (n : ℕ) → n ≤ largest → reading (xs ++ (form n ++ ys)) (length xs) ≡ numberRead n (length xs + length (form n))
 reads-back xs ys n h =
     there (xs ++ (form n ++ ys)) ys (length xs) n h (omega (arith, length-append xs (form n ++ ys))) (drop-append-seam xs (form n ++ ys))
 
--- ---- what an accepted call shows
+-- ---- what an numberRead call shows
 
-no-row : {row at n next : ℕ} → refused (suc row) at ≡ accepted n next → ⊥
+no-row : {row at n next : ℕ} → refusedAt (suc row) at ≡ numberRead n next → ⊥
 no-row e = let z = ap (λ (t : Told). t .refusal) e in omega arith
 
 placing : (s : List ℕ) (at n next : ℕ) → writing s at n ≡ placed next → (n ≤ largest) × (at + length (form n) ≤ length s) × (next ≡ at + length (form n))
@@ -70,7 +70,7 @@ placing s at n next e =
     (h, omega arith, sym (ap (λ (t : Told). t .place) (simp (le-ltb largest n h, le-ltb (length s) at g, le-ltb (length s - at) (length (form n)) f) at e))))
     (below (length s - at) (length (form n)))) (below (length s) at)) (below largest n)
 
-pub write-reads-back : (s : List ℕ) (at n next : ℕ) → writing s at n ≡ placed next → reading (written s at n) at ≡ accepted n next
+pub write-reads-back : (s : List ℕ) (at n next : ℕ) → writing s at n ≡ placed next → reading (sliceWritten s at n) at ≡ numberRead n next
 write-reads-back s at n next e =
     let p = placing s at n next e in
     let rest = drop (at + length (form n)) s in
@@ -78,17 +78,17 @@ write-reads-back s at n next e =
     let room : at ≤ length (over s at (form n)) = omega (arith, length-append (take at s ++ form n) rest, length-append (take at s) (form n), front) in
     ap (λ (l : List ℕ). reading l at) (sym (at-placing s at n next (sym e)))
     ∙ there (over s at (form n)) rest at n (p .0) room (ap (drop at) (append-assoc (take at s) (form n) rest) ∙ drop-at (take at s) (form n ++ rest) at front)
-    ∙ ap (accepted n) (sym (p .2))
+    ∙ ap (numberRead n) (sym (p .2))
 
--- ---- an accepted read
+-- ---- an numberRead read
 
-not-end : {at n next : ℕ} → ended at ≡ accepted n next → ⊥
+not-end : {at n next : ℕ} → ended at ≡ numberRead n next → ⊥
 not-end {n = n} e = let z : _≡_ {A = ℕ} 0 1 = cc (ap (λ (t : Told). t .value) e) in omega arith
 
-num-of : {m n i j : ℕ} → accepted m i ≡ accepted n j → m ≡ n
+num-of : {m n i j : ℕ} → numberRead m i ≡ numberRead n j → m ≡ n
 num-of e = cc (ap (λ (t : Told). t .value) e)
 
-sized-is : (at v p n next : ℕ) → sized at (Whole v p) ≡ accepted n next → (v ≡ n) × (p ≡ next)
+sized-is : (at v p n next : ℕ) → sized at (Whole v p) ≡ numberRead n next → (v ≡ n) × (p ≡ next)
 sized-is at v p n next e =
     ⊎-elim (λ h. absurd (no-row (simp (lt-ltb largest v h) at e)))
     (λ h. let q = simp (le-ltb largest v h) at e in (num-of q, ap (λ (t : Told). t .place) q))
@@ -99,7 +99,7 @@ record Accepts (s : List ℕ) (at n next : ℕ) : Type 0 where
   spells : Spells (bytes (drop at s)) n groups
   after : at + length (bytes (drop at s)) ≡ next
 
-accepting : (s : List ℕ) (at n next : ℕ) → reading s at ≡ accepted n next → Accepts s at n next
+accepting : (s : List ℕ) (at n next : ℕ) → reading s at ≡ numberRead n next → Accepts s at n next
 accepting s at n next e =
     ⊎-elim (λ h. absurd (no-row (sym (reading-beyond s at h) ∙ e)))
     (λ h. ⊎-elim (λ q. absurd (not-end (sym (reading-end s at q) ∙ e))) before (eq-or-lt-of-le h))
@@ -112,7 +112,7 @@ accepting s at n next e =
         (λ p. let q = sized-is at _ _ n next (sym (ap (sized at) (scanned-well s at groups p)) ∙ r) in record { inside = h; spells = subst (λ (m : ℕ). Spells (bytes (drop at s)) m groups) (q .0) p; after = q .1 })
         (shaped groups (drop at s))
 
-pub forward : (s : List ℕ) (at n next : ℕ) → reading s at ≡ accepted n next → (at < next) × (next ≤ length s)
+pub forward : (s : List ℕ) (at n next : ℕ) → reading s at ≡ numberRead n next → (at < next) × (next ≤ length s)
 forward s at n next e =
     let a = accepting s at n next e in
     omega (arith, some-bytes (a .spells), bytes-within (drop at s), length-drop at s)
@@ -121,7 +121,7 @@ pub less-left : (s : List ℕ) (at n next : ℕ) (found : Read) → ReadPromise 
     → length s - next < length s - at
 less-left s at n next found read is = omega (arith, forward s at n next (sym read ∙ ap readTold is))
 
-pub read-form : (s : List ℕ) (at n next : ℕ) → ((i : ℕ) → getD s i 0 < 256) → reading s at ≡ accepted n next → slice at next s ≡ form n
+pub read-form : (s : List ℕ) (at n next : ℕ) → ((i : ℕ) → getD s i 0 < 256) → reading s at ≡ numberRead n next → slice at next s ≡ form n
 read-form s at n next byte e =
     let a = accepting s at n next e in
     let xs = drop at s in
@@ -134,5 +134,5 @@ read-form s at n next byte e =
 
 pub one-form :
     (s t : List ℕ) (i j n k l : ℕ) → ((m : ℕ) → getD s m 0 < 256) → ((m : ℕ) → getD t m 0 < 256)
-    → reading s i ≡ accepted n k → reading t j ≡ accepted n l → slice i k s ≡ slice j l t
+    → reading s i ≡ numberRead n k → reading t j ≡ numberRead n l → slice i k s ≡ slice j l t
 one-form s t i j n k l p q d e = read-form s i n k p d ∙ sym (read-form t j n l q e)

@@ -15,10 +15,9 @@ use lib.Seq.{drop-cons}
 use Rattle.trace.specs.declared.number.Shape.{Shape}
 use Rattle.trace.specs.declared.number.Shape.the-variants.{Whole, Misshapen}
 use Rattle.trace.specs.Figures.{groups, largest}
-use Rattle.trace.specs.Answers.{Told, accepted, ended, refused}
+use Rattle.trace.specs.Answers.{Told, numberRead, ended, refusedAt}
 use Rattle.trace.specs.Number.{reading}
-use Rattle.trace.specs.Form.{bytes, value, misshapen}
-use Rattle.trace.specs.Scan.{shape, scanned}
+use Rattle.trace.specs.Form.{bytes, value, misshapen, shape, scanned}
 use Rattle.trace.specs.ByteLaws.{bytes-one, bytes-more}
 use Rattle.trace.specs.SpellingLaws.{Spells, one, more, Shaped, shaped, well-shaped, spelt-value, spelt-alone, few, some-bytes, misshapen-more, misshapen-zero}
 
@@ -111,10 +110,10 @@ scanned-small s at room n next e =
 -- ---- beyond the end, at it, and before it, where what is found is judged by its size
 
 abbrev pub sized : ℕ → Shape → Told
-sized at Misshapen = refused 8 at
-sized at (Whole n next) = cond (ltb largest n) (refused 9 at) (accepted n next)
+sized at Misshapen = refusedAt 8 at
+sized at (Whole n next) = cond (ltb largest n) (refusedAt 9 at) (numberRead n next)
 
-pub reading-beyond : (s : List ℕ) (at : ℕ) → length s < at → reading s at ≡ refused 10 at
+pub reading-beyond : (s : List ℕ) (at : ℕ) → length s < at → reading s at ≡ refusedAt 10 at
 unfolding reading
 reading-beyond s at h = simp (lt-ltb (length s) at h)
 
@@ -130,6 +129,6 @@ reading-inside s at h =
     bs : List ℕ
     bs = bytes (drop at s)
 
-    go : (m : Bool) → cond m (refused 8 at) (sized at (Whole (value bs) (at + length bs))) ≡ sized at (cond m Misshapen (Whole (value bs) (at + length bs)))
+    go : (m : Bool) → cond m (refusedAt 8 at) (sized at (Whole (value bs) (at + length bs))) ≡ sized at (cond m Misshapen (Whole (value bs) (at + length bs)))
     go true = refl
     go false = refl

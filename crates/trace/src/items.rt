@@ -2,8 +2,7 @@
 ghost use mathlib.Core.Path.{_≡_};
 ghost use Prim.Native.Nat.{_<_};
 ghost use lib.ListN.{getD, length};
-ghost use Rattle.trace.specs.Items.{itemEvents};
-ghost use Rattle.trace.specs.Clocked.{clocked};
+ghost use Rattle.trace.specs.Items.{itemEvents, clocked};
 ghost use Rattle.trace.specs.Figures.{byteEvents};
 
 // The first number that is a data byte, and the events of one. `specs/Figures.antt` has them for the definitions.

@@ -6,9 +6,8 @@ ghost use mathlib.Core.Path.{_≡_};
 ghost use Prim.Native.Nat.{_+_, _≤_};
 ghost use lib.ListN.{length};
 ghost use lib.Seq.{sets};
-ghost use Rattle.trace.specs.Form.{form};
+ghost use Rattle.trace.specs.Form.{form, scanned};
 ghost use Rattle.trace.specs.Promises.{ReadPromise, WritePromise};
-ghost use Rattle.trace.specs.Scan.{scanned};
 
 // The figures of the format: the largest value, and the most groups of seven bits that a number has.
 // `specs/Figures.antt` has them for the definitions.

@@ -11,11 +11,11 @@ use Rattle.stages.specs.declared.stage.Came.the-variants.{NoByte, Bytes}
 use Rattle.stages.specs.declared.stage.Line.the-variants.{Down}
 use Rattle.stages.specs.declared.stage.Purpose.the-variants.{ToRead, ToWrite}
 use Rattle.stages.specs.declared.stage.What.the-variants.{Array, Status}
-use Rattle.stages.specs.Bits.{fresh}
-use Rattle.lines.specs.Edges.{withSck, withWp, withSi, withHold, withStage}
-use Rattle.lines.specs.Lines.{atRest}
-use Rattle.lines.specs.declared.hold.Hold.the-variants.{LowCsHigh}
-use Rattle.lines.specs.declared.state.State.{State}
+use Rattle.stages.specs.Bits.{noBits}
+use Rattle.pins.specs.Edges.{withSck, withWp, withSi, withHold, withStage}
+use Rattle.pins.specs.Levels.{atRest}
+use Rattle.pins.specs.declared.hold.Hold.the-variants.{LowCsHigh}
+use Rattle.pins.specs.declared.state.State.{State}
 use Rattle.select.specs.Notes.{levelNumber, noteNumbers}
 use Rattle.chip.specs.Event.{event}
 use Rattle.chip.specs.Examples.Run.{same, stateNumbers}
@@ -67,20 +67,20 @@ refusedEvents =
     -- "power off in another form than the off state", field by field
     ∷ refuses (withSck (atRest 1 0 false) true) 512 0 4 ∷ refuses (withSi (atRest 1 0 false) true) 512 0 4
     ∷ refuses (withWp (atRest 1 0 false) false) 512 0 4 ∷ refuses (withHold (atRest 1 0 false) LowCsHigh) 512 0 4
-    ∷ refuses (withStage (atRest 1 0 false) false (Code fresh)) 512 0 4
+    ∷ refuses (withStage (atRest 1 0 false) false (Code noBits)) 512 0 4
     ∷ refuses (withStage (atRest 1 0 false) true (atRest 1 0 false .stage)) 512 0 4
     -- "an address not below the part's size"
-    ∷ refuses (in1 (Writing NoByte fresh 512)) 512 11 4 ∷ refuses (in1 (Writing NoByte fresh 511)) 512 11 0
-    ∷ refuses (in3 (Writing Bytes fresh 2048)) 2048 11 4 ∷ refuses (in3 (Writing Bytes fresh 2047)) 2048 11 0
+    ∷ refuses (in1 (Writing NoByte noBits 512)) 512 11 4 ∷ refuses (in1 (Writing NoByte noBits 511)) 512 11 0
+    ∷ refuses (in3 (Writing Bytes noBits 2048)) 2048 11 4 ∷ refuses (in3 (Writing Bytes noBits 2047)) 2048 11 0
     ∷ refuses (in3 (Ready Array 2048)) 2048 11 4 ∷ refuses (in3 (Ready Array 2047)) 2048 11 0
     ∷ refuses (in1 (ArrayOut Down 0 512)) 512 11 4 ∷ refuses (in1 (Ready Status 1)) 512 11 4
-    ∷ refuses (in1 (Lower ToWrite fresh 2)) 512 11 4 ∷ refuses (in1 (Lower ToWrite fresh 1)) 512 11 0
-    ∷ refuses (in3 (Lower ToRead fresh 8)) 2048 11 4 ∷ refuses (in3 (Lower ToRead fresh 7)) 2048 11 0
+    ∷ refuses (in1 (Lower ToWrite noBits 2)) 512 11 4 ∷ refuses (in1 (Lower ToWrite noBits 1)) 512 11 0
+    ∷ refuses (in3 (Lower ToRead noBits 8)) 2048 11 4 ∷ refuses (in3 (Lower ToRead noBits 7)) 2048 11 0
     -- "a partial byte or bit count that no number of clocks gives"
     ∷ refuses (in1 (Code 0)) 512 11 4 ∷ refuses (in1 (Code 255)) 512 11 0 ∷ refuses (in1 (Code 256)) 512 11 4
     ∷ refuses (in1 (Keeping 0)) 512 11 4 ∷ refuses (in1 (Keeping 256)) 512 11 4 ∷ refuses (in1 (Writing NoByte 256 0)) 512 11 4
     ∷ refuses (in1 (Lower ToRead 256 0)) 512 11 4 ∷ refuses (in3 (Upper ToRead 256)) 2048 11 4 ∷ refuses (in3 (Upper ToRead 255)) 2048 11 0
-    ∷ refuses (in1 (Upper ToWrite fresh)) 512 11 4 ∷ refuses (in1 (ArrayOut Down 8 0)) 512 11 4 ∷ refuses (in1 (StatusOut Down 8)) 512 11 4
+    ∷ refuses (in1 (Upper ToWrite noBits)) 512 11 4 ∷ refuses (in1 (ArrayOut Down 8 0)) 512 11 4 ∷ refuses (in1 (StatusOut Down 8)) 512 11 4
     ∷ []
 
 -- a power-up over an array of so many bytes
@@ -131,7 +131,7 @@ allFilled (c ∷ cs) =
     && same (filled (c .part) (replicate (c .len) 0xEE)) (replicate (c .len) (c .byte))
     && allFilled cs
 
--- "Filling a fresh array with 00 checks 1, 2." "Lent memory stays at every refusal."
+-- "Filling a noBits array with 00 checks 1, 2." "Lent memory stays at every refusal."
 unfoldable pub fillings : List Filling
 fillings =
     fills 0 0 1 0xEE ∷ fills 4 511 1 0xEE ∷ fills 1 511 2 0xEE ∷ fills 2 513 2 0xEE ∷ fills 3 512 2 0xEE

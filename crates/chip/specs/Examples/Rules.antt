@@ -3,7 +3,7 @@
 use Prim.Native.Nat.{ℕ}
 use mathlib.Core.Bool.{true, false}
 use mathlib.Core.List.{List, [], _∷_, _++_}
-use Rattle.trace.specs.Clocked.{clocked}
+use Rattle.trace.specs.Items.{clocked}
 use Rattle.parts.specs.declared.guards.Reason.the-variants.{LatchOff, Protect, Block}
 use Rattle.stages.specs.declared.stage.End.the-variants.{Quiet}
 use Rattle.stages.specs.declared.stage.Line.the-variants.{Down, Up}
@@ -12,10 +12,10 @@ use Rattle.stages.specs.declared.stage.Stage.the-variants.{Ready, StatusOut, Ov
 use Rattle.stages.specs.declared.stage.What.the-variants.{Status}
 use Rattle.select.specs.declared.notes.Note.{Note}
 use Rattle.select.specs.declared.notes.Note.the-variants.{Latch, Stored, HeldBack, KeptSet, KeptHeldBack, PowerLost}
-use Rattle.lines.specs.Edges.{withSck, withSi, withHold, withStage}
-use Rattle.lines.specs.Lines.{atRest}
-use Rattle.lines.specs.declared.hold.Hold.the-variants.{LowCsLow}
-use Rattle.lines.specs.declared.state.State.{State}
+use Rattle.pins.specs.Edges.{withSck, withSi, withHold, withStage}
+use Rattle.pins.specs.Levels.{atRest}
+use Rattle.pins.specs.declared.hold.Hold.the-variants.{LowCsLow}
+use Rattle.pins.specs.declared.state.State.{State}
 use Rattle.chip.specs.Examples.Run.{Example, accepts, writes, idle, wpLow, begins, transfer, clocks, wren}
 
 -- some event is refused, or SO is driven at the end

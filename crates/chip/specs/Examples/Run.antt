@@ -5,7 +5,7 @@ use mathlib.Core.Bool.{Bool, true, false, cond, _&&_}
 use mathlib.Core.List.{List, [], _∷_, _++_, map}
 use lib.ListN.{set, take, replicate}
 use lib.Dec.{eqb}
-use Rattle.trace.specs.Clocked.{clocked}
+use Rattle.trace.specs.Items.{clocked}
 use Rattle.laws.specs.Bits.{bitAt}
 use Rattle.parts.specs.Figures.{figureOf}
 use Rattle.stages.specs.Bits.{lowBit}
@@ -21,16 +21,16 @@ use Rattle.stages.specs.declared.stage.What.{What}
 use Rattle.stages.specs.declared.stage.What.the-variants.{Array, Status}
 use Rattle.select.specs.Notes.{NoteNumbers, levelNumber, noteNumbers}
 use Rattle.select.specs.declared.notes.Note.{Note}
-use Rattle.lines.specs.Edges.{withSi, withWp, withStage}
-use Rattle.lines.specs.Lines.{atRest}
-use Rattle.lines.specs.Watch.{seesRise}
-use Rattle.lines.specs.declared.hold.Hold.{Hold}
-use Rattle.lines.specs.declared.hold.Hold.the-variants.{High, LowCsLow, LowCsHigh}
-use Rattle.lines.specs.declared.state.State.{State}
+use Rattle.pins.specs.Edges.{withSi, withWp, withStage}
+use Rattle.pins.specs.Levels.{atRest}
+use Rattle.pins.specs.Watch.{seesRise}
+use Rattle.pins.specs.declared.hold.Hold.{Hold}
+use Rattle.pins.specs.declared.hold.Hold.the-variants.{High, LowCsLow, LowCsHigh}
+use Rattle.pins.specs.declared.state.State.{State}
 use Rattle.chip.specs.Event.{event}
 use Rattle.chip.specs.Power.{fillRefusal, filled, powerUp}
 use Rattle.chip.specs.declared.event.Answer.{Answer}
-use Rattle.chip.specs.Run.{Chip, answered, begun}
+use Rattle.chip.specs.Run.{Chip, answered, fromPowerUp}
 
 -- what is sent
 
@@ -205,7 +205,7 @@ holds e =
     let xs = filled (e .part) (lent (e .part)) in
     eqb (fillRefusal (e .part) (figureOf (e .part) .size)) 0
     && eqb (powerUp (e .part) (e .kept) xs .refusal) 0
-    && ends e (toldOf (begun (e .part) (e .kept) xs) 2 (e .events))
+    && ends e (toldOf (fromPowerUp (e .part) (e .kept) xs) 2 (e .events))
 
 abbrev pub allHold : List Example → Bool
 allHold [] = true

@@ -3,7 +3,7 @@ use mathlib.Core.Bool.{true, false}
 use mathlib.Core.List.{List, [], _∷_, _++_}
 use Rattle.parts.specs.declared.guards.Reason.the-variants.{LatchOff, Protect, Block}
 use Rattle.select.specs.declared.notes.Note.the-variants.{Latch, Stored, HeldBack, KeptSet, KeptHeldBack, PowerLost}
-use Rattle.lines.specs.Lines.{atRest}
+use Rattle.pins.specs.Levels.{atRest}
 use Rattle.chip.specs.Examples.Run.{Example, accepts, writes, idle, wpLow, begins, transfer, clocks, wren}
 
 -- "Array 00 and part 1 unless said; each transfer is one select."

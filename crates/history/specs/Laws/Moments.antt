@@ -10,17 +10,17 @@ use lib.Dec.{eqb, leb}
 use borrow.Author.Tests.{leb-true, eq-eqb, ne-eqb}
 use Rattle.parts.specs.FigureLaws.{Fair, fair}
 use Rattle.parts.specs.Figures.{figureOf, isPart, inMask}
-use Rattle.lines.specs.Lines.{atRest}
+use Rattle.pins.specs.Levels.{atRest}
 use Rattle.chip.specs.Event as chip
 use Rattle.chip.specs.EventLaws.{event-steps, checks-none}
 use Rattle.chip.specs.Event.{answerOf, checks, event, step, live, written}
 use Rattle.chip.specs.Run.{Chip, poweredUp, answered, next, run}
 use Rattle.chip.specs.RunLaws.{next-length, next-sound}
-use Rattle.lines.specs.SoundLaws.{rest-sound}
-use Rattle.lines.specs.Sound.{sound}
-use Rattle.lines.specs.declared.hold.Hold.the-variants.{High}
+use Rattle.pins.specs.SoundLaws.{rest-sound}
+use Rattle.pins.specs.Sound.{sound}
+use Rattle.pins.specs.declared.hold.Hold.the-variants.{High}
 use Rattle.stages.specs.declared.stage.Stage.the-variants.{Closed}
-use Rattle.lines.specs.declared.state.State.{State}
+use Rattle.pins.specs.declared.state.State.{State}
 use Rattle.chip.specs.declared.event.Answer.{Answer}
 use Rattle.history.specs.Wire.{Wire, rest, refusal, afterOne, afterAll, act, acts, passes}
 use Rattle.history.specs.History.{World, history}

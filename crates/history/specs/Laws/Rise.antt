@@ -16,10 +16,10 @@ use Rattle.parts.specs.declared.commands.Command.{Command}
 use Rattle.parts.specs.declared.commands.Command.the-variants.{Wren, Wrdi, Rdsr, Wrsr, Read, Write, Other}
 use Rattle.parts.specs.declared.guards.Verdict.{Verdict}
 use Rattle.parts.specs.declared.guards.Verdict.the-variants.{Allowed, HeldBack}
-use Rattle.stages.specs.Bits.{fresh, takeBit}
+use Rattle.stages.specs.Bits.{noBits, takeBit}
 use Rattle.stages.specs.Address.{codePage, upperPage, afterCode, afterAddress}
 use Rattle.select.specs.Rise as select
-use Rattle.select.specs.Rise.{begun, storeNote, keptBy, opened, codeRise, upperRise, lowerRise, writeRise, keepRise, rise}
+use Rattle.select.specs.Rise.{begins, storeNote, keptBy, opened, codeRise, upperRise, lowerRise, writeRise, keepRise, rise}
 use Rattle.stages.specs.declared.bits.Taken.the-variants.{Part, Whole}
 use Rattle.select.specs.declared.rise.Seen.{Seen}
 use Rattle.select.specs.declared.rise.Risen.{Risen}
@@ -83,7 +83,7 @@ module _ (f : Figure) (fair : Fair f) (w v : World) (sh : ℕ) (si : Bool)
       (purpose : Purpose) (read : List Byte → Reading) (count : ℕ)
       → ((bs : List Byte) → read bs ≡ dataOf purpose (number (topBit f (b .value)) (take count bs) % f .size) (drop count bs))
       → Header count (f .top)
-      → Image f fresh read (cond (eqb count 2) (Upper purpose fresh) (Lower purpose fresh (codePage f (b .value))))
+      → Image f noBits read (cond (eqb count 2) (Upper purpose noBits) (Lower purpose noBits (codePage f (b .value))))
   whole-memory purpose read count p (one k n u) =
       rw n
       (lower {read = read} purpose (codePage f (b .value))
@@ -104,13 +104,13 @@ module _ (f : Figure) (fair : Fair f) (w v : World) (sh : ℕ) (si : Bool)
       }))
 
   abbrev Led : (List Byte → Reading) → Risen → Type 0
-  Led read r = Leads f w v fresh read r
+  Led read r = Leads f w v noBits read r
 
   -- of any other command
-  ends : {stage : Stage} (r : Reading) → latchDrops r ≡ false → Ended false stage → Image f fresh (λ bs. r) stage
+  ends : {stage : Stage} (r : Reading) → latchDrops r ≡ false → Ended false stage → Image f noBits (λ bs. r) stage
   ends r q n = over (λ w. effect f w r) false (record { world = λ w bs. refl; latch = λ bs. q }) n
 
-  whole-op : v ≡ w → (c : Command) → Led (λ bs. readAs f (b .value) bs c) (begun f (seenIn v (b .wp) si) (b .value) c)
+  whole-op : v ≡ w → (c : Command) → Led (λ bs. readAs f (b .value) bs c) (begins f (seenIn v (b .wp) si) (b .value) c)
   unfolding readAs address effect overlay keepFirst latchDrops written afterCode
   whole-op e Wren = record { image = ends (latches true) refl quiet; world = ap (λ (u : World). withLatch u true) e }
   whole-op e Wrdi = record { image = ends (latches false) refl quiet; world = ap (λ (u : World). withLatch u false) e }
@@ -157,7 +157,7 @@ module _ (f : Figure) (fair : Fair f) (w v : World) (sh : ℕ) (si : Bool)
   wrote-more Bytes bs = refl
 
   note-kept :
-      (read : List Byte → Reading) (verdict : Verdict) → Image f fresh (λ bs. read (b ∷ bs)) (Over Drops)
+      (read : List Byte → Reading) (verdict : Verdict) → Image f noBits (λ bs. read (b ∷ bs)) (Over Drops)
       → keepIf f v b verdict ≡ effect f w (read (b ∷ []))
       → Led (λ bs. read (b ∷ bs)) (keptBy f (seenIn v (b .wp) si) (b .value) verdict)
   unfolding written keepIf

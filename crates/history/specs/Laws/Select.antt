@@ -10,7 +10,7 @@ use lib.Dec.{leb}
 use borrow.Author.Tests.{leb-true, leb-false}
 use Rattle.parts.specs.FigureLaws.{Fair}
 use Rattle.parts.specs.declared.figures.Figure.{Figure}
-use Rattle.stages.specs.Bits.{fresh}
+use Rattle.stages.specs.Bits.{noBits}
 use Rattle.stages.specs.Close as close
 use Rattle.select.specs.Fall.{fall}
 use Rattle.select.specs.Rise.{rise}
@@ -49,8 +49,8 @@ module _ (f : Figure) (w : World) where
   select-fall xs status closed = closed
   select-fall xs status (going read r c e i) = going read r c e (image-fall f xs status i)
 
-  -- a fresh select
-  pub select-fresh : Selected f w (inside []) w (Code fresh)
+  -- a noBits select
+  pub select-fresh : Selected f w (inside []) w (Code noBits)
   unfolding effect readTransfer bitsValue
   select-fresh = going (readTransfer f) [] (cut-none f) refl code
 

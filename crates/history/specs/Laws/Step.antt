@@ -15,12 +15,12 @@ use Rattle.select.specs.Rise.{rise}
 use Rattle.select.specs.declared.notes.Note.the-variants.{Latch}
 use Rattle.stages.specs.declared.stage.Stage.{Stage}
 use Rattle.stages.specs.declared.stage.Stage.the-variants.{Closed}
-use Rattle.lines.specs.Lines.{atRest, holdHigh}
-use Rattle.lines.specs.Edges.{silent, csFall, csRise, sckRise, sckFall, holdFall, holdRise}
+use Rattle.pins.specs.Levels.{atRest, holdHigh}
+use Rattle.pins.specs.Edges.{silent, csFall, csRise, sckRise, sckFall, holdFall, holdRise}
 use Rattle.chip.specs.Event.{accepted, answerOf, csStayed, live, step, written}
 use Rattle.chip.specs.Run.{Chip, answered}
-use Rattle.lines.specs.declared.hold.Hold.{Hold}
-use Rattle.lines.specs.declared.hold.Hold.the-variants.{High, LowCsLow, LowCsHigh}
+use Rattle.pins.specs.declared.hold.Hold.{Hold}
+use Rattle.pins.specs.declared.hold.Hold.the-variants.{High, LowCsLow, LowCsHigh}
 use Rattle.history.specs.Wire.{Wire, rest, put, refusal, afterOne, act}
 use Rattle.history.specs.History.{World}
 use Rattle.history.specs.Laws.Place.{Place, outside, inside, isOutside, worldAt, placeAfter, base}

@@ -1,6 +1,5 @@
 -- One event, or eight times three.
-use Rattle.trace.specs.Items.{itemEvents}
-use Rattle.trace.specs.Clocked.{clocked}
+use Rattle.trace.specs.Items.{itemEvents, clocked}
 use borrow.Author.Tests.{le-ltb, lt-ltb}
 use Rattle.trace.proofs.items.events_of.Statement.{statement}
 use Rattle.trace.proofs.items.events_of.Tie as tie
