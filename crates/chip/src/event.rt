@@ -5,6 +5,7 @@ ghost use Rattle.chip.specs.Promises.{EventPromise};
 ghost use Rattle.pins.specs.Edges.{siTo, wpTo};
 use parts::figures::Figure;
 use parts::figures::figure_of;
+use parts::figures::fits_part;
 use pins::hold::hold_high;
 use pins::sound::sound;
 use pins::state::Moved;
@@ -225,17 +226,12 @@ fn store(array: &mut [u8], note: Note)
     ensures { λ _. ⌜ now (array .exit) ≡ written note (now (array .entry)) ⌝ }
 {
     match note {
-        Note::Nothing => {}
-        Note::Latch(_) => {}
         Note::Stored(at, byte) => {
             if at < array.len() {
                 array[at] = byte;
             }
         }
-        Note::HeldBack(_, _) => {}
-        Note::KeptSet(_) => {}
-        Note::KeptHeldBack(_) => {}
-        Note::PowerLost => {}
+        _ => {}
     }
 }
 
@@ -246,8 +242,7 @@ fn checks(state: State, len: usize, code: u64) -> u8
     if !sound(state) {
         return 4;
     }
-    let f = figure_of(state.part as u64);
-    if len != f.size {
+    if !fits_part(state.part as u64, len) {
         return 2;
     }
     if 12 <= code {

@@ -4,6 +4,7 @@ ghost use lib.ListN.{length, replicate};
 ghost use Rattle.chip.specs.Power.{powerRefusal, powerUp, fillRefusal};
 ghost use Rattle.chip.specs.Promises.{FillPromise};
 use parts::figures::figure_of;
+use parts::figures::fits_part;
 use parts::figures::is_part;
 use pins::state::State;
 
@@ -18,8 +19,7 @@ fn fill_refusal(part: u64, len: usize) -> u8
     if !is_part(part) {
         return 1;
     }
-    let f = figure_of(part);
-    if len != f.size {
+    if !fits_part(part, len) {
         return 2;
     }
     0

@@ -198,11 +198,13 @@ fn keep_rise(f: Figure, seen: Seen, shift: u16) -> Risen
     }
 }
 
-// "Each seen rise of SCK in an open select takes SI". What no rule names does nothing.
+// "Each seen rise of SCK in an open select takes SI". What no rule names does nothing. One `_` for the stages that stay
+// was slower: time it before you write one (docs/SPEED.md).
 pub fn rise(f: Figure, seen: Seen, stage: Stage) -> Risen
     ensures { λ r. ⌜ r ≡ rise f seen stage ⌝ }
 {
     match stage {
+        Stage::Closed => to_stage(seen, stage),
         Stage::Code { shift } => code_rise(f, seen, shift),
         Stage::Upper { purpose, shift } => upper_rise(f, seen, purpose, shift),
         Stage::Lower {
@@ -210,8 +212,11 @@ pub fn rise(f: Figure, seen: Seen, stage: Stage) -> Risen
             shift,
             page,
         } => lower_rise(seen, purpose, shift, page),
+        Stage::Ready { .. } => to_stage(seen, stage),
+        Stage::ArrayOut { .. } => to_stage(seen, stage),
+        Stage::StatusOut { .. } => to_stage(seen, stage),
         Stage::Writing { came, shift, at } => write_rise(f, seen, came, shift, at),
         Stage::Keeping { shift } => keep_rise(f, seen, shift),
-        _ => to_stage(seen, stage),
+        Stage::Over { .. } => to_stage(seen, stage),
     }
 }
