@@ -16,12 +16,15 @@ cast-step c =
 
 returns : tie.Need-returns
 unfolding event written
-returns c = (
-  ap paper
-      (passed (c .before .before .before .before .before .before .before .before .before .before .before .before .args .array .now) (c .before .before .before .before .before .before .before .before .before .before .before .before .args .state) (c .before .before .before .before .before .before .before .before .before .before .before .before .args .code)
-      (c .answer-of .ensures) (c .before .before .before .before .before .step .ensures) (c .before .before .before .before .before .before .before .figure-of .ensures) (c .before .before .before .before .before .before .before .before .before .before .checks .ensures) (c .before .before .before .before .before .before .before .before .before .if1 .taken)),
-  simp (c .answer-of .ensures, c .before .before .before .store .ensures, c .before .before .before .before .before .step .ensures, c .before .before .before .before .before .before .before .figure-of .ensures, ← c .before .before .before .before .before .before .before .before .before .before .checks .ensures, c .before .before .before .before .before .before .before .before .before .if1 .taken),
-)
+returns c =
+    let args = c .before .before .before .before .before .before .before .before .before .before .before .before .args in
+    let checked = c .before .before .before .before .before .before .before .before .before .before .checks .ensures in
+    let fine = c .before .before .before .before .before .before .before .before .before .if1 .taken in
+    let row = c .before .before .before .before .before .before .before .figure-of .ensures in
+    let stepped = c .before .before .before .before .before .step .ensures in (
+      ap paper (passed (args .array .now) (args .state) (args .code) (c .answer-of .ensures) stepped row checked fine),
+      simp (c .before .before .before .store .ensures, stepped, row, ← checked, fine),
+    )
 
 returns-2 : tie.Need-returns-2
 unfolding event written
@@ -36,15 +39,6 @@ pub event-spec : {M : Type 1} → statement M
 event-spec =
     tie.close
     (tie.spec
-    (λ c κs. search needs)
-    (λ c. search needs)
-    (λ c κs. search needs)
-    cast-step
-    (λ c κs. search needs)
-    (λ c κs. search needs)
-    (λ c κs. search needs)
-    (λ c κs. search needs)
-    (λ c κs. search needs)
-    (λ c. search needs)
-    returns
-    returns-2)
+    (λ c κs. search needs) (λ c. search needs) (λ c κs. search needs) cast-step (λ c κs. search needs)
+    (λ c κs. search needs) (λ c κs. search needs) (λ c κs. search needs) (λ c κs. search needs) (λ c. search needs)
+    returns returns-2)

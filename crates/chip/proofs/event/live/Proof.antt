@@ -27,26 +27,15 @@ returns-5 c = simp (c .accept4 .ensures, c .before .wp-to .ensures, c .before .b
 
 returns-6 : tie.Need-returns-6
 unfolding live
-returns-6 c = simp (c .accept5 .ensures, c .before .vdd-to .ensures, ne-eqb _ _ (c .before .before .match .rest .1), ne-eqb _ _ (c .before .before .match .rest .0 .1), ne-eqb _ _ (c .before .before .match .rest .0 .0 .1), ne-eqb _ _ (c .before .before .match .rest .0 .0 .0 .1), ne-eqb _ _ (c .before .before .match .rest .0 .0 .0 .0 .1))
+returns-6 c =
+    let rest = c .before .before .match .rest in
+    let fifth = rest .0 .0 .0 in
+    simp (c .accept5 .ensures, c .before .vdd-to .ensures, ne-eqb _ _ (rest .1), ne-eqb _ _ (rest .0 .1), ne-eqb _ _ (rest .0 .0 .1), ne-eqb _ _ (fifth .1), ne-eqb _ _ (fifth .0 .1))
 
 pub live-spec : {M : Type 1} → statement M
 live-spec =
     tie.close
     (tie.spec
-    (λ c κs. search needs)
-    (λ c κs. search needs)
-    (λ c κs. search needs)
-    (λ c κs. search needs)
-    (λ c κs. search needs)
-    (λ c κs. search needs)
-    (λ c κs. search needs)
-    (λ c κs. search needs)
-    (λ c κs. search needs)
-    (λ c κs. search needs)
-    (λ c κs. search needs)
-    returns
-    returns-2
-    returns-3
-    returns-4
-    returns-5
-    returns-6)
+    (λ c κs. search needs) (λ c κs. search needs) (λ c κs. search needs) (λ c κs. search needs) (λ c κs. search needs)
+    (λ c κs. search needs) (λ c κs. search needs) (λ c κs. search needs) (λ c κs. search needs) (λ c κs. search needs)
+    (λ c κs. search needs) returns returns-2 returns-3 returns-4 returns-5 returns-6)

@@ -1,5 +1,4 @@
 -- The tests come in the order of the refusals.
-use borrow.Author.Tests.{eq-eqb, ne-eqb}
 use Rattle.chip.specs.Power.{fillRefusal}
 use borrow.Author.Needs.{needs}
 use Rattle.chip.proofs.power.fill_refusal.Statement.{statement}
@@ -11,11 +10,11 @@ returns c = simp (← c .before .is-part .ensures, c .if1 .taken)
 
 returns-2 : tie.Need-returns-2
 unfolding fillRefusal
-returns-2 c = simp (← c .before .before .figure-of .ensures, ← c .before .before .before .before .is-part .ensures, ne-eqb _ _ (c .if2 .taken), c .before .before .before .if1 .left)
+returns-2 c = simp (← c .before .fits-part .ensures, ← c .before .before .before .is-part .ensures, c .if2 .taken, c .before .before .if1 .left)
 
 returns-3 : tie.Need-returns-3
 unfolding fillRefusal
-returns-3 c = simp (← c .before .before .figure-of .ensures, ← c .before .before .before .before .is-part .ensures, eq-eqb _ _ (c .if2 .left), c .before .before .before .if1 .left)
+returns-3 c = simp (← c .before .fits-part .ensures, ← c .before .before .before .is-part .ensures, c .if2 .left, c .before .before .if1 .left)
 
 pub fill-refusal-spec : {M : Type 1} → statement M
 fill-refusal-spec =

@@ -27,10 +27,5 @@ pub power-up-spec : {M : Type 1} → statement M
 power-up-spec =
     tie.close
     (tie.spec
-    (λ c κs. search needs)
-    (λ c κs. search needs)
-    returns
-    cast-at-rest
-    cast-at-rest-2
-    (λ c κs. search needs)
+    (λ c κs. search needs) (λ c κs. search needs) returns cast-at-rest cast-at-rest-2 (λ c κs. search needs)
     returns-2)

@@ -1,5 +1,8 @@
--- `reader::next` meets its contract: a walk of its MIR, by hand. The borrow is opened, which gives the struct's cell and what the struct owns. The struct is Copy: of one copy what src owns goes to `read_at`, beside the inner lifetime's token, which comes back; the other is kept.
--- The place that `place_of` reads off the answer is stored in the cell, beside the slice that the struct holds, and the borrow is closed at the struct with that place. All that the proof knows of `read_at` and `place_of` is that each meets its contract.
+-- `reader::next` meets its contract: a walk of its MIR, by hand. The borrow is opened, which gives the struct's cell and what the
+-- struct owns. The struct is Copy: of one copy what src owns goes to `read_at`, beside the inner lifetime's token, which comes
+-- back; the other is kept.
+-- The place that `place_of` reads off the answer is stored in the cell, beside the slice that the struct holds, and the borrow is
+-- closed at the struct with that place. All that the proof knows of `read_at` and `place_of` is that each meets its contract.
 -- Assumes nothing.
 use mathlib.Core.Path.{_≡_, refl, ap, _∙_}
 use Prim.Native.Nat.{ℕ, _<_, _^_}
@@ -141,9 +144,11 @@ module _ {M : Type 1} (𝓤 : URA M) (H : Heap 𝓤) (A : Atoms 𝓤) (W : Given
   apart fits =
       qed W ((‵ (flft κ′ q′) ⊛ ‵ ftrue) ∷ ‵ Own ∷ []) ∵
       move ! (1 ∷ []) $ use1 W (‵ Own ⊛ ‵ Own) (LL.copy D (T′.the-copy (α κ′)) 𝓤 H A W .twice h (mach ∷ [])) $ split ! $
-      use1 W (given (mach ∷ [] ≡ mach ∷ []) (‵ (all-own (D .parts) L vh))) (own-open 𝓤 H A W D L vh mach) $ learn ! (λ _. use1 W (‵ (ownAt (D .parts) L 0 (h .src)) ⊛ ‵ (rest (D .parts) L 0 vh)) (own-out 𝓤 H A W (D .parts) L 0 vh) $ split ! $
+      use1 W (given (mach ∷ [] ≡ mach ∷ []) (‵ (all-own (D .parts) L vh))) (own-open 𝓤 H A W D L vh mach) $
+      learn ! (λ _. use1 W (‵ (ownAt (D .parts) L 0 (h .src)) ⊛ ‵ (rest (D .parts) L 0 vh)) (own-out 𝓤 H A W (D .parts) L 0 vh) $ split ! $
       -- [what src owns; what at owns; what the struct owns; the token]
-      move ! (1 ∷ []) $ drop ! $ nothing ! $ owned ! usize (Is usize) (uint-makes 𝓤 H A W w64) (h .at) _ (refl, fits) $ fjoin ! $ move ! (1 ∷ 0 ∷ []) $ fjoin ! $
+      move ! (1 ∷ []) $ drop ! $ nothing ! $ owned ! usize (Is usize) (uint-makes 𝓤 H A W w64) (h .at) _ (refl, fits) $ fjoin ! $ move ! (1 ∷ 0 ∷ []) $
+      fjoin ! $
       move ! (2 ∷ 0 ∷ []) $ use2 W (raw (ReadAt 𝓤 H A at-mem run .pre to-read)) asked $ frame ! $ done !)
 
   read-said : (t : Read) → ent 𝓤 (ensured 𝓤 H A read.ended (read.clauses 𝓤 H A at-mem run) (κ′, tt) (h .src, (h .at, tt)) tt t) (fact 𝓤 (readTold t ≡ found))
@@ -161,7 +166,8 @@ module _ {M : Type 1} (𝓤 : URA M) (H : Heap 𝓤) (A : Atoms 𝓤) (W : Given
 
   -- what src owns is kept, and at's facts are made anew
   again : (n : ℕ) → n < 2 ^ 64 → ent 𝓤 (sem 𝓤 H A Own) (sem 𝓤 H A (B κ′ .own (put n) (T′.lowered (put n) ∷ [])))
-  again n fits = qed W (‵ Own ∷ []) ∵ owned ! usize (Is usize) (uint-makes 𝓤 H A W w64) n _ (refl, fits) $ move ! (1 ∷ 0 ∷ []) $ by ! (own-put 𝓤 H A W D L 1 vh n mach)
+  again n fits =
+      qed W (‵ Own ∷ []) ∵ owned ! usize (Is usize) (uint-makes 𝓤 H A W w64) n _ (refl, fits) $ move ! (1 ∷ 0 ∷ []) $ by ! (own-put 𝓤 H A W D L 1 vh n mach)
 
   -- what whoever holds the struct, or an answer, knows of its machine value
   typed : Is (B κ′) h (mach ∷ []) → Holds (hasTy (T′.mir erased) mach) × WT mach
@@ -175,13 +181,15 @@ module _ {M : Type 1} (𝓤 : URA M) (H : Heap 𝓤) (A : Atoms 𝓤) (W : Given
   exits t u n e p =
       qed W (‵ (fobs γ (B κ′ .coded .code (put n))) ∷ ‵ (fbor κ (Body (mem (B κ′)) b o γ)) ∷ ‵ (flft κ q) ∷ (‵ (flft κ′ q′) ⊛ ‵ ftrue) ∷ ‵ (S.the-row .own t (u ∷ [])) ∷ []) ∵
       suffices ! _ (ends-at 𝓤 H A next.ended stayed (next.clauses 𝓤 H A at-mem run) W (((κ, (κ′, tt)), (q, (q′, tt)), bounds, x, at), tt) u t (put n, tt) (tt, tt)) $ says ! (e, ap put (p ∙ ap (λ (a : Told). a .place) e)) $
-      move ! (2 ∷ 3 ∷ []) $ join ! $ frame ! $ feqI ! (List Val) (vptr b o ∷ []) (vptr b o ∷ []) refl $ fjoin3 ! $ nothing ! $ move ! (1 ∷ 0 ∷ []) $ fjoin ! $ done !
+      move ! (2 ∷ 3 ∷ []) $ join ! $ frame ! $ feqI ! (List Val) (vptr b o ∷ []) (vptr b o ∷ []) refl $ fjoin3 ! $ nothing ! $ move ! (1 ∷ 0 ∷ []) $ fjoin ! $
+      done !
 
   module _ (C : Calls 𝓤 H) (Λ : Loops 𝓤 H) (fm : FmC 𝓤 H (W .laws) C) (known-read : Triple 𝓤 (C #read-at) (ReadAt 𝓤 H A at-mem run)) (known-place : Triple 𝓤 (C #place-of) (PlaceOf 𝓤 H A at-mem run)) where
     walk : ent 𝓤 (onEntry 𝓤 H A next.signature (κ, (κ′, tt)) (q, (q′, tt)) x at) (WpFn 𝓤 H C Λ code.function (vptr b o ∷ []) Post)
     walk =
         qed W ((‵ (flft κ q) ⊛ ‵ (flft κ′ q′) ⊛ ‵ ftrue) ∷ ‵ (owns (MutRef (named 0) κ (B κ′) ∷ []) x at) ∷ []) ∵ enter ! C Λ code.function (vptr b o ∷ []) _ $
-        alloc1 ! (λ l₀. alloc1 ! (λ l₁. alloc1 ! (λ l₂. alloc1 ! (λ l₃. alloc1 ! (λ l₄. alloc1 ! (λ l₅. alloc0 ! $ params1 ! $ pass1 ! (init ! 8 refl (tt, tt)) $ pass0 ! $
+        alloc1 ! (λ l₀. alloc1 ! (λ l₁. alloc1 ! (λ l₂. alloc1 ! (λ l₃. alloc1 ! (λ l₄. alloc1 ! (λ l₅. alloc0 ! $ params1 ! $
+        pass1 ! (init ! 8 refl (tt, tt)) $ pass0 ! $
         -- the borrow is opened
         move ! (13 ∷ []) $ fsplit ! $ fsplit3 ! $ drop ! $ move ! (15 ∷ []) $ split ! $ move ! (2 ∷ 3 ∷ 0 ∷ []) $
         opens ! tt (B κ′) {h = h} b o (λ vs. spelt ! (B κ′) (Is (B κ′)) (shows 𝓤 H A (B κ′)) (LL.vals D L) (LL.tells D L) fullShare h vs b o $
@@ -201,7 +209,8 @@ module _ {M : Type 1} (𝓤 : URA M) (H : Heap 𝓤) (A : Atoms 𝓤) (W : Given
         use1 W (later (some (λ (n : ℕ). (‵ ftrue ⊛ ‵ (usize .own n (w ∷ []))) ⊛ raw (ensured 𝓤 H A place.ended (place.clauses 𝓤 H A at-mem run) tt (t, tt) tt n)))) (id⊢ 𝓤 _) $ await ! tt $ pick ! (λ n.
         split ! $ move ! (1 ∷ []) $ use1 W (raw (fact 𝓤 (n ≡ readTold t .place))) (place-said t n) $ heard ! (n ≡ readTold t .place) (λ p. split ! $ drop ! $
         peeks ! usize (Is usize) (shows 𝓤 H A usize) n (w ∷ []) (λ fit.
-        land ! (from ! (stop !)) (init ! 8 refl (uint-lawful 𝓤 H A W w64 .typed n _ fit .0)) $ rewrite ! 8 (λ (z : Val). ‵ (fat fullShare (tyInt w64) l₅ 0 z)) (ap only (fit .0)) refl $
+        land ! (from ! (stop !)) (init ! 8 refl (uint-lawful 𝓤 H A W w64 .typed n _ fit .0)) $
+        rewrite ! 8 (λ (z : Val). ‵ (fat fullShare (tyInt w64) l₅ 0 z)) (ap only (fit .0)) refl $
         -- [the place; the inner token; what a Reader owns; the cell; the open borrow; obs; auth; …; _5; …; _4; …; _3; …; _2; …; _1; …; room for _0; …]
         assigns ! (of-opd ! (load ! (from ! (stop !)) (look ! 8 refl))) (from ! (hop ! (look ! 16 refl) (fld ! refl (stop !)))) (store-in ! 3 (sub ! 1 refl (whole !)) (tt, record { fits = fit .1 })) $
         assigns ! (of-opd ! (load ! (from ! (stop !)) (look ! 10 refl))) (from ! (stop !)) (init ! 18 refl (answer t u is)) $
@@ -211,19 +220,23 @@ module _ {M : Type 1} (𝓤 : URA M) (H : Heap 𝓤) (A : Atoms 𝓤) (W : Given
         move ! (0 ∷ 1 ∷ 4 ∷ 5 ∷ 6 ∷ []) $ closes ! tt (B κ′) (put n) (T′.lowered (put n) ∷ []) b o $
         -- [obs; the borrow; the outer token; the place; the inner token; …; _5; …; _4; …; _3; …; _2; …; _1; …; _0; …]
         returns ! (look ! 16 refl) $ forget ! 6 refl $ forget ! 8 refl $ forget ! 10 refl $ forget ! 12 refl $ forget ! 14 refl $ forget ! 16 refl $
-        move ! (16 ∷ 17 ∷ []) $ free1 ! $ move ! (14 ∷ 15 ∷ []) $ free1 ! $ move ! (12 ∷ 13 ∷ []) $ free1 ! $ move ! (10 ∷ 11 ∷ []) $ free1 ! $ move ! (8 ∷ 9 ∷ []) $ free1 ! $ move ! (6 ∷ 7 ∷ []) $ free1 ! $ free0 ! $
-        owned ! S.the-row (Is S.the-row) (EL.makes S.the-type S′.the-plain 𝓤 H A) t (u ∷ []) is $ keep ! (1 ∷ 2 ∷ 3 ∷ 5 ∷ 0 ∷ []) $ by ! (exits t u n e p)))))))))))))))))
+        move ! (16 ∷ 17 ∷ []) $ free1 ! $ move ! (14 ∷ 15 ∷ []) $ free1 ! $ move ! (12 ∷ 13 ∷ []) $ free1 ! $ move ! (10 ∷ 11 ∷ []) $ free1 ! $
+        move ! (8 ∷ 9 ∷ []) $ free1 ! $ move ! (6 ∷ 7 ∷ []) $ free1 ! $ free0 ! $
+        owned ! S.the-row (Is S.the-row) (EL.makes S.the-type S′.the-plain 𝓤 H A) t (u ∷ []) is $ keep ! (1 ∷ 2 ∷ 3 ∷ 5 ∷ 0 ∷ []) $
+        by ! (exits t u n e p)))))))))))))))))
 
 module _ {M : Type 1} (𝓤 : URA M) (H : Heap 𝓤) (A : Atoms 𝓤) (W : Given 𝓤 H A) (mem : Memory → SProp 𝓤) (run : Routine → Fun 𝓤) where
   next-walks : (C : Calls 𝓤 H) (Λ : Loops 𝓤 H) → FmC 𝓤 H (W .laws) C → Triple 𝓤 (C #read-at) (ReadAt 𝓤 H A mem run) → Triple 𝓤 (C #place-of) (PlaceOf 𝓤 H A mem run)
       → Walks 𝓤 H A next.ended stayed (WpFn 𝓤 H C Λ code.function) (next.clauses 𝓤 H A mem run)
-  next-walks C Λ fm known-read known-place = walked 𝓤 H A next.ended stayed (next.clauses 𝓤 H A mem run) (WpFn 𝓤 H C Λ code.function) (λ κs. (ptr-vals, tt)) (λ κs. (mut-tells (named 0) (κs .0) (B (κs .1 .0)), tt))
+  next-walks C Λ fm known-read known-place =
+      walked 𝓤 H A next.ended stayed (next.clauses 𝓤 H A mem run) (WpFn 𝓤 H C Λ code.function) (λ κs. (ptr-vals, tt)) (λ κs. (mut-tells (named 0) (κs .0) (B (κs .1 .0)), tt))
       (λ κs qs bounds a g are. via 𝓤 _ (fst∗ 𝓤 _ (emp 𝓤)) (walk 𝓤 H A W mem run (κs .0) (κs .1 .0) (qs .0) (qs .1 .0) bounds (a .0 .ptr .0) (a .0 .ptr .1) (a .0 .name) (a .0 .now) C Λ fm known-read known-place))
 
 next-meets : {M : Type 1} (𝓤 : URA M) (H : Heap 𝓤) (A : Atoms 𝓤) → Given 𝓤 H A → (mem : Memory → SProp 𝓤) (run : Routine → Fun 𝓤) (𝓣 : Tables 𝓤 H)
     → Triple 𝓤 (𝓣 .C #read-at) (ReadAt 𝓤 H A mem run) → Triple 𝓤 (𝓣 .C #place-of) (PlaceOf 𝓤 H A mem run)
     → Meets 𝓤 H A next.signature (WpFn 𝓤 H (𝓣 .C) (𝓣 .Λ) code.function) (next.spec 𝓤 H A mem run)
-next-meets 𝓤 H A W mem run 𝓣 known-read known-place = walk-meets 𝓤 H A next.ended stayed W (goes-ref 𝓤 H A W 2 0 tt behind, tt) (next.clauses 𝓤 H A mem run) (WpFn 𝓤 H (𝓣 .C) (𝓣 .Λ) code.function) (WpFn-mono 𝓤 H (W .laws) 𝓣 code.function)
+next-meets 𝓤 H A W mem run 𝓣 known-read known-place =
+    walk-meets 𝓤 H A next.ended stayed W (goes-ref 𝓤 H A W 2 0 tt behind, tt) (next.clauses 𝓤 H A mem run) (WpFn 𝓤 H (𝓣 .C) (𝓣 .Λ) code.function) (WpFn-mono 𝓤 H (W .laws) 𝓣 code.function)
     (next-walks 𝓤 H A W mem run (𝓣 .C) (𝓣 .Λ) (fmOf 𝓤 H (W .laws) 𝓣) known-read known-place)
 
 pub next-spec : {M : Type 1} → stated.statement M

@@ -1,6 +1,10 @@
--- `reader::number_at` meets its contract: a walk of its MIR, by hand. The `Reader` that `open` returns is held in a local, and the local is lent to `next` for a lifetime of the call, which lies within the slice's own: its token is made of a new lifetime's and of half of the slice's.
--- After the call that lifetime is ended, the local comes back and is freed. All that the proof knows of `open` and of `next` is that each meets its contract.
--- In a local of a body MIR erases the lifetime of the struct's type, so the value is shown to have the type at `erased`: what the struct owns does not say the lifetime's name.
+-- `reader::number_at` meets its contract: a walk of its MIR, by hand. The `Reader` that `open` returns is held in a local, and
+-- the local is lent to `next` for a lifetime of the call, which lies within the slice's own: its token is made of a new
+-- lifetime's and of half of the slice's.
+-- After the call that lifetime is ended, the local comes back and is freed. All that the proof knows of `open` and of `next` is
+-- that each meets its contract.
+-- In a local of a body MIR erases the lifetime of the struct's type, so the value is shown to have the type at `erased`: what the
+-- struct owns does not say the lifetime's name.
 -- Assumes nothing.
 use mathlib.Core.Path.{_≡_, refl, ap, _∙_}
 use Prim.Native.Nat.{ℕ, _<_, _^_}
@@ -112,7 +116,8 @@ module _ {M : Type 1} (𝓤 : URA M) (H : Heap 𝓤) (A : Atoms 𝓤) (W : Given
   goes-open =
       qed W ((‵ (flft κ q) ⊛ ‵ ftrue) ∷ ‵ (owns (ShrSlice (named 0) κ u8 ∷ usize ∷ []) (s, (n, tt)) at) ∷ []) ∵
       move ! (1 ∷ []) $ fsplit ! $ use1 W (‵ Own ⊛ ‵ Own) (shr-slice-copy 𝓤 H A W (named 0) κ u8 .twice s (v ∷ [])) $ split ! $
-      move ! (0 ∷ 2 ∷ []) $ fjoin ! $ move ! (2 ∷ 0 ∷ []) $ use2 W (raw (Open 𝓤 H A at-mem run .pre to-open)) (qed W ((‵ (flft κ q) ⊛ ‵ ftrue) ∷ ‵ (owns (ShrSlice (named 0) κ u8 ∷ usize ∷ []) (s, (n, tt)) at) ∷ []) ∵ join ! $ frame ! $ done !) $ frame ! $ done !
+      move ! (0 ∷ 2 ∷ []) $ fjoin ! $ move ! (2 ∷ 0 ∷ []) $
+      use2 W (raw (Open 𝓤 H A at-mem run .pre to-open)) (qed W ((‵ (flft κ q) ⊛ ‵ ftrue) ∷ ‵ (owns (ShrSlice (named 0) κ u8 ∷ usize ∷ []) (s, (n, tt)) at) ∷ []) ∵ join ! $ frame ! $ done !) $ frame ! $ done !
 
   open-said : (r : Reader) → ent 𝓤 (ensured 𝓤 H A opening.ended (opening.clauses 𝓤 H A at-mem run) (κ, tt) (s, (n, tt)) tt r) (fact 𝓤 (r ≡ readerAt s n))
   open-said r = exE 𝓤 _ (λ ws. snd∗ 𝓤 (sem 𝓤 H A (lasts opening.ended (κ, tt) (s, (n, tt)) ws)) (fact 𝓤 (r ≡ readerAt s n)))
@@ -130,7 +135,8 @@ module _ {M : Type 1} (𝓤 : URA M) (H : Heap 𝓤) (A : Atoms 𝓤) (W : Given
   cell : (r : Reader) (l : ℕ) → ent 𝓤 (sem 𝓤 H A (mem R .lies r l 0)) (sem 𝓤 H A (fat fullShare (T′.mir erased) l 0 (T′.lowered r)))
   unfolding partOf
   cell r l =
-      qed W (‵ (mem R .lies r l 0) ∷ []) ∵ fpick ! (λ vs. fsplit ! $ spelt ! R (Is R) (shows 𝓤 H A R) (LL.vals (T.the-type α) (T′.the-laws α)) (LL.tells (T.the-type α) (T′.the-laws α)) fullShare r vs l 0 $
+      qed W (‵ (mem R .lies r l 0) ∷ []) ∵ fpick ! (λ vs. fsplit ! $
+      spelt ! R (Is R) (shows 𝓤 H A R) (LL.vals (T.the-type α) (T′.the-laws α)) (LL.tells (T.the-type α) (T′.the-laws α)) fullShare r vs l 0 $
       use1 W (‵ (fat fullShare (T′.mir erased) l 0 (T′.lowered r))) (W .laws .raw-at fullShare (T′.mir erased) l 0 (T′.lowered r)) $ keep ! (0 ∷ []) $ done !)
 
   -- the halves of the slice's share: one is met with the new lifetime ν, the other goes along
@@ -160,13 +166,16 @@ module _ {M : Type 1} (𝓤 : URA M) (H : Heap 𝓤) (A : Atoms 𝓤) (W : Given
   exits t u e =
       qed W (‵ (S.the-row .own t (u ∷ [])) ∷ (‵ (flft κ q) ⊛ ‵ ftrue) ∷ ‵ Own ∷ []) ∵
       suffices ! _ (ends-at 𝓤 H A number-at.ended stayed (number-at.clauses 𝓤 H A at-mem run) W (((κ, tt), (q, tt), tt, (s, (n, tt)), at), tt) u t (tt, (tt, tt)) (tt, (tt, tt))) $ says ! e $
-      move ! (1 ∷ []) $ frame ! $ nothing ! $ owned ! usize (Is usize) (uint-makes 𝓤 H A W w64) n _ (refl, ok) $ fjoin ! $ move ! (2 ∷ 0 ∷ []) $ fjoin ! $ frame ! $ done !
+      move ! (1 ∷ []) $ frame ! $ nothing ! $ owned ! usize (Is usize) (uint-makes 𝓤 H A W w64) n _ (refl, ok) $ fjoin ! $ move ! (2 ∷ 0 ∷ []) $ fjoin ! $
+      frame ! $ done !
 
   module _ (C : Calls 𝓤 H) (Λ : Loops 𝓤 H) (fm : FmC 𝓤 H (W .laws) C) (known-open : Triple 𝓤 (C #open) (Open 𝓤 H A at-mem run)) (known-next : Triple 𝓤 (C #next) (Next 𝓤 H A at-mem run)) where
     walk : Is (ShrSlice (named 0) κ u8) s (v ∷ []) → ent 𝓤 (onEntry 𝓤 H A number-at.signature (κ, tt) (q, tt) (s, (n, tt)) at) (WpFn 𝓤 H C Λ code.function (v ∷ vint w64 n ∷ []) Post)
     walk p =
         qed W (raw (onEntry 𝓤 H A number-at.signature (κ, tt) (q, tt) (s, (n, tt)) at) ∷ []) ∵ enter ! C Λ code.function (v ∷ vint w64 n ∷ []) _ $
-        alloc1 ! (λ l₀. alloc1 ! (λ l₁. alloc1 ! (λ l₂. alloc1 ! (λ l₃. alloc1 ! (λ l₄. alloc1 ! (λ l₅. alloc0 ! $ params1 ! $ pass1 ! (init ! 8 refl (shr-slice-lawful 𝓤 H A W (named 0) κ u8 .typed s (v ∷ []) p .0)) $ pass1 ! (init ! 6 refl (tt, record { fits = ok })) $ pass0 ! $
+        alloc1 ! (λ l₀. alloc1 ! (λ l₁. alloc1 ! (λ l₂. alloc1 ! (λ l₃. alloc1 ! (λ l₄. alloc1 ! (λ l₅. alloc0 ! $ params1 ! $
+        pass1 ! (init ! 8 refl (shr-slice-lawful 𝓤 H A W (named 0) κ u8 .typed s (v ∷ []) p .0)) $ pass1 ! (init ! 6 refl (tt, record { fits = ok })) $
+        pass0 ! $
         move ! (12 ∷ []) $ use1 W (raw (Open 𝓤 H A at-mem run .pre to-open) ⊛ ‵ Own) goes-open $ split ! $
         calls-at ! fm (Open 𝓤 H A at-mem run) known-open to-open (and-then ! (load ! (from ! (stop !)) (look ! 10 refl)) (and-then ! (load ! (from ! (stop !)) (look ! 8 refl)) (no-more !))) (λ u.
         use1 W (later (some (λ (r : Reader). ((‵ (flft κ q) ⊛ ‵ ftrue) ⊛ ‵ (R .own r (u ∷ []))) ⊛ raw (ensured 𝓤 H A opening.ended (opening.clauses 𝓤 H A at-mem run) (κ, tt) (s, (n, tt)) tt r)))) (id⊢ 𝓤 _) $ await ! tt $ pick ! (λ r.
@@ -186,7 +195,8 @@ module _ {M : Type 1} (𝓤 : URA M) (H : Heap 𝓤) (A : Atoms 𝓤) (W : Given
         move ! (0 ∷ 2 ∷ 4 ∷ []) $ use3 W (raw (Next 𝓤 H A at-mem run .pre (to-next ν r l₃ γ))) (goes-next ν r l₃ γ) $
         calls-at ! fm (Next 𝓤 H A at-mem run) known-next (to-next ν r l₃ γ) (and-then ! (load ! (from ! (stop !)) (look ! 5 refl)) (no-more !)) (λ u′.
         use1 W (later (some (λ (t : Read). ((‵ (flft (ν ∷ κ) qₗ) ⊛ ‵ (flft κ qᵣ) ⊛ ‵ ftrue) ⊛ ‵ (S.the-row .own t (u′ ∷ []))) ⊛ some (λ (ws : Reader × Unit {0}). ‵ (lasts next.ended (ν ∷ κ, (κ, tt)) (lent r l₃ γ) ws) ⊛ raw (fact 𝓤 (NextPromise r t (ws .0))))))) (id⊢ 𝓤 _) $ await ! tt $ pick ! (λ t.
-        split ! $ move ! (1 ∷ []) $ pick ! (λ ws. split ! $ move ! (1 ∷ []) $ heard ! (NextPromise r t (ws .0)) (λ f. fsplit ! $ move ! (2 ∷ []) $ split ! $ split ! $
+        split ! $ move ! (1 ∷ []) $ pick ! (λ ws. split ! $ move ! (1 ∷ []) $ heard ! (NextPromise r t (ws .0)) (λ f. fsplit ! $ move ! (2 ∷ []) $ split ! $
+        split ! $
         -- [the token of ν within κ; the other half; the answer; the local's last value; …; the way back; …; the lender's part; what s owns; _5; …]
         move ! (0 ∷ 5 ∷ []) $ use2 W (later (‵ (fdead (ν ∷ κ)) ⊛ ‵ (flft κ qₗ))) (within-end 𝓤 H A W ν κ qₗ) $ await ! tt $ split ! $
         move ! (2 ∷ []) $ split ! $ move ! (3 ∷ 0 ∷ []) $ use2 W (‵ (flft κ q)) (W .lfts .lft-join κ q) $ join ! $
@@ -197,19 +207,22 @@ module _ {M : Type 1} (𝓤 : URA M) (H : Heap 𝓤) (A : Atoms 𝓤) (W : Given
         peeks ! S.the-row (Is S.the-row) (shows 𝓤 H A S.the-row) t (u′ ∷ []) (λ is′.
         land ! (from ! (stop !)) (init ! 15 refl (answer t u′ is′)) $
         returns ! (look ! 15 refl) $ forget ! 1 refl $ forget ! 6 refl $ forget ! 8 refl $ forget ! 11 refl $ forget ! 13 refl $ forget ! 15 refl $
-        move ! (15 ∷ 16 ∷ []) $ free1 ! $ move ! (13 ∷ 14 ∷ []) $ free1 ! $ move ! (11 ∷ 12 ∷ []) $ free1 ! $ move ! (1 ∷ 10 ∷ []) $ free1 ! $ move ! (7 ∷ 8 ∷ []) $ free1 ! $ move ! (5 ∷ 6 ∷ []) $ free1 ! $ free0 ! $
+        move ! (15 ∷ 16 ∷ []) $ free1 ! $ move ! (13 ∷ 14 ∷ []) $ free1 ! $ move ! (11 ∷ 12 ∷ []) $ free1 ! $ move ! (1 ∷ 10 ∷ []) $ free1 ! $
+        move ! (7 ∷ 8 ∷ []) $ free1 ! $ move ! (5 ∷ 6 ∷ []) $ free1 ! $ free0 ! $
         keep ! (0 ∷ 1 ∷ 4 ∷ []) $ by ! (exits t u′ (f .0 ∙ ap (λ (d : Reader). reading (now (d .src)) (d .at)) e)))))))))))))))))))
 
 module _ {M : Type 1} (𝓤 : URA M) (H : Heap 𝓤) (A : Atoms 𝓤) (W : Given 𝓤 H A) (mem : Memory → SProp 𝓤) (run : Routine → Fun 𝓤) where
   number-at-walks : (C : Calls 𝓤 H) (Λ : Loops 𝓤 H) → FmC 𝓤 H (W .laws) C → Triple 𝓤 (C #open) (Open 𝓤 H A mem run) → Triple 𝓤 (C #next) (Next 𝓤 H A mem run)
       → Walks 𝓤 H A number-at.ended stayed (WpFn 𝓤 H C Λ code.function) (number-at.clauses 𝓤 H A mem run)
-  number-at-walks C Λ fm known-open known-next = walked 𝓤 H A number-at.ended stayed (number-at.clauses 𝓤 H A mem run) (WpFn 𝓤 H C Λ code.function) (λ κs. (slice-vals, (uint-vals w64, tt))) (λ κs. (shr-slice-tells (named 0) (κs .0) u8, (uint-tells w64, tt)))
+  number-at-walks C Λ fm known-open known-next =
+      walked 𝓤 H A number-at.ended stayed (number-at.clauses 𝓤 H A mem run) (WpFn 𝓤 H C Λ code.function) (λ κs. (slice-vals, (uint-vals w64, tt))) (λ κs. (shr-slice-tells (named 0) (κs .0) u8, (uint-tells w64, tt)))
       (λ κs qs bounds a g are. via 𝓤 _ (fst∗ 𝓤 _ (emp 𝓤)) (walk 𝓤 H A W mem run (κs .0) (qs .0) (a .0) (a .1 .0) (are .1 .0 .1) C Λ fm known-open known-next (are .0)))
 
 number-at-meets : {M : Type 1} (𝓤 : URA M) (H : Heap 𝓤) (A : Atoms 𝓤) (W : Given 𝓤 H A) (mem : Memory → SProp 𝓤) (run : Routine → Fun 𝓤) (𝓣 : Tables 𝓤 H)
     → Triple 𝓤 (𝓣 .C #open) (Open 𝓤 H A mem run) → Triple 𝓤 (𝓣 .C #next) (Next 𝓤 H A mem run)
     → Meets 𝓤 H A number-at.signature (WpFn 𝓤 H (𝓣 .C) (𝓣 .Λ) code.function) (number-at.spec 𝓤 H A mem run)
-number-at-meets 𝓤 H A W mem run 𝓣 known-open known-next = walk-meets 𝓤 H A number-at.ended stayed W (goes-none-slice 𝓤 H A W 1 (0 ∷ []) tt (plain (λ _. u8)) yes, (goes-none 𝓤 H A W 1 (λ _. usize) yes (λ κs x f. refl), tt)) (number-at.clauses 𝓤 H A mem run) (WpFn 𝓤 H (𝓣 .C) (𝓣 .Λ) code.function) (WpFn-mono 𝓤 H (W .laws) 𝓣 code.function)
+number-at-meets 𝓤 H A W mem run 𝓣 known-open known-next =
+    walk-meets 𝓤 H A number-at.ended stayed W (goes-none-slice 𝓤 H A W 1 (0 ∷ []) tt (plain (λ _. u8)) yes, (goes-none 𝓤 H A W 1 (λ _. usize) yes (λ κs x f. refl), tt)) (number-at.clauses 𝓤 H A mem run) (WpFn 𝓤 H (𝓣 .C) (𝓣 .Λ) code.function) (WpFn-mono 𝓤 H (W .laws) 𝓣 code.function)
     (number-at-walks 𝓤 H A W mem run (𝓣 .C) (𝓣 .Λ) (fmOf 𝓤 H (W .laws) 𝓣) known-open known-next)
 
 pub number-at-spec : {M : Type 1} → stated.statement M
