@@ -34,18 +34,18 @@ abbrev pub latched : Seen → Bool → Risen
 latched seen on = record { stage = Over Quiet; latch = on; kept = seen .kept; note = Latch on }
 
 -- "Other op-codes .. do nothing (one op-code per select)."
-abbrev pub begins : Figure → Seen → ℕ → Command → Risen
-begins f seen code Wren = latched seen true
-begins f seen code Wrdi = latched seen false
-begins f seen code Rdsr = quiet seen (Ready Status 0)
-begins f seen code Wrsr = quiet seen (Keeping noBits)
-begins f seen code Read = quiet seen (afterCode f ToRead code)
-begins f seen code Write = quiet seen (afterCode f ToWrite code)
-begins f seen code Other = quiet seen (Over Quiet)
+abbrev pub byCommand : Figure → Seen → ℕ → Command → Risen
+byCommand f seen code Wren = latched seen true
+byCommand f seen code Wrdi = latched seen false
+byCommand f seen code Rdsr = quiet seen (Ready Status 0)
+byCommand f seen code Wrsr = quiet seen (Keeping noBits)
+byCommand f seen code Read = quiet seen (afterCode f ToRead code)
+byCommand f seen code Write = quiet seen (afterCode f ToWrite code)
+byCommand f seen code Other = quiet seen (Over Quiet)
 
 -- "The first eight bits are the op-code"
 unfoldable pub opened : Figure → Seen → ℕ → Risen
-opened f seen code = begins f seen code (command (f .ops) code)
+opened f seen code = byCommand f seen code (command (f .ops) code)
 
 abbrev pub codeTaken : Figure → Seen → Taken → Risen
 codeTaken f seen (Part more) = quiet seen (Code more)

@@ -19,7 +19,7 @@ use Rattle.parts.specs.declared.guards.Verdict as verdict
 use Rattle.stages.specs.Address.{upperPage, nextAddress}
 use Rattle.stages.specs.Bits.{takeBit}
 use Rattle.select.specs.Fall.{showArray, showStatus, fall}
-use Rattle.select.specs.Rise.{begins, opened, codeTaken, codeRise, upperTaken, upperRise, lowerTaken, lowerRise}
+use Rattle.select.specs.Rise.{byCommand, opened, codeTaken, codeRise, upperTaken, upperRise, lowerTaken, lowerRise}
 use Rattle.select.specs.Rise.{writeTaken, writeRise, keptBy, keepTaken, keepRise, rise}
 use Rattle.stages.specs.SoundLaws.{within, SoundTaken, take-sound, next-sound, after-code, after-address}
 use Rattle.stages.specs.Sound.{soundStage}
@@ -41,7 +41,7 @@ module _ (f : Figure) (fair : Fair f) where
   kept-masked seen byte verdict.the-variants.Allowed h = under-twice byte (f .kept) (fair .mask)
   kept-masked seen byte (verdict.the-variants.HeldBack reason) h = h
 
-  begun-masked : (seen : Seen) (code : ℕ) (c : Command) → begins f seen code c .kept ≡ seen .kept
+  begun-masked : (seen : Seen) (code : ℕ) (c : Command) → byCommand f seen code c .kept ≡ seen .kept
   begun-masked seen code Wren = refl
   begun-masked seen code Wrdi = refl
   begun-masked seen code Rdsr = refl
@@ -86,7 +86,7 @@ module _ (f : Figure) (fair : Fair f) where
   rise-masked seen (Keeping shift) h = keep-masked seen (takeBit shift (seen .si)) h
   rise-masked seen (Over end) h = h
 
-  begun-sound : (seen : Seen) (code : ℕ) (c : Command) → soundStage f (begins f seen code c .stage) ≡ true
+  begun-sound : (seen : Seen) (code : ℕ) (c : Command) → soundStage f (byCommand f seen code c .stage) ≡ true
   unfolding soundStage
   begun-sound seen code Wren = refl
   begun-sound seen code Wrdi = refl

@@ -19,7 +19,7 @@ use Rattle.parts.specs.declared.guards.Verdict.the-variants.{Allowed, HeldBack}
 use Rattle.stages.specs.Bits.{noBits, takeBit}
 use Rattle.stages.specs.Address.{codePage, upperPage, afterCode, afterAddress}
 use Rattle.select.specs.Rise as select
-use Rattle.select.specs.Rise.{begins, storeNote, keptBy, opened, codeRise, upperRise, lowerRise, writeRise, keepRise, rise}
+use Rattle.select.specs.Rise.{byCommand, storeNote, keptBy, opened, codeRise, upperRise, lowerRise, writeRise, keepRise, rise}
 use Rattle.stages.specs.declared.bits.Taken.the-variants.{Part, Whole}
 use Rattle.select.specs.declared.rise.Seen.{Seen}
 use Rattle.select.specs.declared.rise.Risen.{Risen}
@@ -110,7 +110,7 @@ module _ (f : Figure) (fair : Fair f) (w v : World) (sh : ℕ) (si : Bool)
   ends : {stage : Stage} (r : Reading) → latchDrops r ≡ false → Ended false stage → Image f noBits (λ bs. r) stage
   ends r q n = over (λ w. effect f w r) false (record { world = λ w bs. refl; latch = λ bs. q }) n
 
-  whole-op : v ≡ w → (c : Command) → Led (λ bs. readAs f (b .value) bs c) (begins f (seenIn v (b .wp) si) (b .value) c)
+  whole-op : v ≡ w → (c : Command) → Led (λ bs. readAs f (b .value) bs c) (byCommand f (seenIn v (b .wp) si) (b .value) c)
   unfolding readAs address effect overlay keepFirst latchDrops written afterCode
   whole-op e Wren = record { image = ends (latches true) refl quiet; world = ap (λ (u : World). withLatch u true) e }
   whole-op e Wrdi = record { image = ends (latches false) refl quiet; world = ap (λ (u : World). withLatch u false) e }
