@@ -12,7 +12,7 @@ use Rattle.trace.specs.Answers.{Value, num, end, numberRead}
 use Rattle.trace.specs.Number.{reading}
 use Rattle.trace.specs.NumberLaws.{forward}
 use Rattle.trace.specs.ScanLaws.{reading-beyond, reading-end}
-use Rattle.bench.specs.Run.{Items, noItem, listed, readOn, itemsIn, itemsFrom}
+use Rattle.bench.specs.Run.{Items, noItem, itemThen, readOn, itemsIn, itemsFrom}
 
 module _ (s : List ℕ) where
   none-left : (at : ℕ) (more : ℕ → Items) → length s ≤ at → readOn (reading s at) more ≡ noItem (reading s at .refusal)
@@ -26,7 +26,7 @@ module _ (s : List ℕ) where
     where
       go : (row : ℕ) (v : Value) (p : ℕ) → reading s at ≡ record { refusal = row; value = v; place = p }
           → readOn (record { refusal = row; value = v; place = p }) f ≡ readOn (record { refusal = row; value = v; place = p }) g
-      go zero (num n) p e = ap (listed (num n)) (h n p e)
+      go zero (num n) p e = ap (itemThen (num n)) (h n p e)
       go zero end p e = refl
       go (suc row) v p e = rw (ne-eqb (suc row) 0 (λ h. omega arith))
 

@@ -40,13 +40,13 @@ pub record Items : Type 0 where
 abbrev pub noItem : ℕ → Items
 noItem refusal = record { numbers = []; refusal = refusal }
 
-abbrev pub listed : Value → Items → Items
-listed (num n) more = record { numbers = n ∷ more .numbers; refusal = more .refusal }
-listed end more = noItem 0
+abbrev pub itemThen : Value → Items → Items
+itemThen (num n) more = record { numbers = n ∷ more .numbers; refusal = more .refusal }
+itemThen end more = noItem 0
 
 -- "An accepted read gives the number and the place after it": the next item is read from that place
 abbrev pub readOn : Told → (ℕ → Items) → Items
-readOn t from = cond (eqb (t .refusal) 0) (listed (t .value) (from (t .place))) (noItem (t .refusal))
+readOn t from = cond (eqb (t .refusal) 0) (itemThen (t .value) (from (t .place))) (noItem (t .refusal))
 
 -- as many as `left` of them; with no byte left a read answers "end", or 10 beyond it
 abbrev pub itemsIn : ℕ → List ℕ → ℕ → Items

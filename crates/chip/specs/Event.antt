@@ -16,7 +16,7 @@ use Rattle.pins.specs.Sound.{sound}
 use Rattle.pins.specs.declared.state.State.{State}
 use Rattle.pins.specs.declared.state.Moved.{Moved}
 use Rattle.chip.specs.declared.event.Answer.{Answer}
-use Rattle.chip.specs.declared.event.Stepped.{Stepped}
+use Rattle.chip.specs.declared.step.Stepped.{Stepped}
 
 -- what an event comes to: "a refusal number or 0; the state; .. and one note"
 abbrev pub accepted : Moved → Stepped
@@ -80,22 +80,26 @@ dark s code = accepted (cond (eqb code 11) (vddRise s) (silent s))
 unfoldable pub step : Figure → List ℕ → State → ℕ → Stepped
 step f xs s code = cond (s .power) (live f xs s (code / 2) (eqb (code % 2) 1)) (dark s code)
 
--- "An event checks 4, 2, 5, 6, 7." The first three: 4 "state fails the soundness test", 2, 5 "event code 12 or more".
--- 0 where none is given.
-unfoldable pub checks : State → ℕ → ℕ → ℕ
-checks s len code =
-    cond (not (sound s)) 4
-    (cond (not (fitsPart (s .part) len)) 2
-    (cond (leb 12 code) 5
-    0))
+-- the first of two refusals that is given
+abbrev pub first : ℕ → ℕ → ℕ
+first a b = cond (eqb a 0) b a
 
--- one event on the lent array: refused by the first checks, or the step
+-- 4 "state fails the soundness test", 2 "array length is not the part's"; 0 where none is given
+abbrev pub lendRefusal : State → ℕ → ℕ
+lendRefusal s len = cond (not (sound s)) 4 (cond (not (fitsPart (s .part) len)) 2 0)
+
+-- "An event checks 4, 2, 5, 6, 7." The first three: 4, 2, 5 "event code 12 or more".
+unfoldable pub checks : State → ℕ → ℕ → ℕ
+checks s len code = first (lendRefusal s len) (cond (leb 12 code) 5 0)
+
+-- refused by the first checks, or the step
+abbrev pub tried : Figure → List ℕ → State → ℕ → Stepped
+tried f xs s code =
+    cond (eqb (checks s (length xs) code) 0) (step f xs s code) (refused (checks s (length xs) code) s)
+
+-- one event on the lent array
 unfoldable pub event : List ℕ → State → ℕ → Answer
-event xs s code =
-    answerOf
-    (cond (eqb (checks s (length xs) code) 0)
-    (step (figureOf (s .part)) xs s code)
-    (refused (checks s (length xs) code) s))
+event xs s code = answerOf (tried (figureOf (s .part)) xs s code)
 
 -- the array after an event: one byte changes, where the note says stored
 unfoldable pub written : Note → List ℕ → List ℕ

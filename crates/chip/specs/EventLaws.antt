@@ -8,50 +8,57 @@ use lib.Dec.{eqb, leb}
 use borrow.Author.Tests.{eqb-false, eqb-true, eq-eqb, ne-eqb, leb-false}
 use Rattle.parts.specs.Figures.{figureOf, fitsPart}
 use Rattle.parts.specs.declared.figures.Figure.{Figure}
-use Rattle.chip.specs.Event.{checks, event, step, refused, answerOf}
+use Rattle.chip.specs.Event.{lendRefusal, checks, tried, event, step, refused, answerOf}
 use Rattle.pins.specs.Sound.{sound}
 use Rattle.pins.specs.declared.state.State.{State}
 use Rattle.chip.specs.declared.event.Answer.{Answer}
-use Rattle.chip.specs.declared.event.Stepped.{Stepped}
+use Rattle.chip.specs.declared.step.Stepped.{Stepped}
+
+module _ (f : Figure) (xs : List ℕ) (s : State) (code : ℕ) where
+  by : Bool → Stepped
+  by passed = cond passed (step f xs s code) (refused (checks s (length xs) code) s)
+
+  -- what an attempt comes to in either case
+  pub tried-steps : eqb (checks s (length xs) code) 0 ≡ true → tried f xs s code ≡ step f xs s code
+  unfolding by
+  tried-steps e = ap by e
+
+  pub tried-stops : eqb (checks s (length xs) code) 0 ≡ false → tried f xs s code ≡ refused (checks s (length xs) code) s
+  unfolding by
+  tried-stops e = ap by e
 
 module _ (xs : List ℕ) (s : State) (code : ℕ) where
-  by : Bool → Answer
-  by passed = answerOf (cond passed (step (figureOf (s .part)) xs s code) (refused (checks s (length xs) code) s))
-
-  event-refused : eqb (checks s (length xs) code) 0 ≡ false → event xs s code ≡ answerOf (refused (checks s (length xs) code) s)
-  unfolding event by
-  event-refused e = ap by e
-
   pub event-steps : eqb (checks s (length xs) code) 0 ≡ true → event xs s code ≡ answerOf (step (figureOf (s .part)) xs s code)
-  unfolding event by
-  event-steps e = ap by e
-
-  -- what the call does in either case
-  pub passed : {r : Answer} {t : Stepped} {f : Figure} {n : ℕ}
-      → r ≡ answerOf t → t ≡ step f xs s code → f ≡ figureOf (s .part) → n ≡ checks s (length xs) code → n ≡ 0 → r ≡ event xs s code
-  passed er et ef en e =
-      er ∙ ap answerOf (et ∙ ap (λ (f : Figure). step f xs s code) ef) ∙ sym (event-steps (eq-eqb _ _ (sym en ∙ e)))
-
-  pub stopped : {r : Answer} {t : Stepped} {n : ℕ}
-      → r ≡ answerOf t → t ≡ refused n s → n ≡ checks s (length xs) code → (n ≡ 0 → ⊥) → r ≡ event xs s code
-  stopped er et en e =
-      er ∙ ap answerOf (et ∙ ap (λ (n : ℕ). refused n s) en) ∙ sym (event-refused (ne-eqb _ _ (λ q. e (en ∙ q))))
+  unfolding event
+  event-steps e = ap answerOf (tried-steps (figureOf (s .part)) xs s code e)
 
   pub checks-none : sound s ≡ true → fitsPart (s .part) (length xs) ≡ true → leb 12 code ≡ false → checks s (length xs) code ≡ 0
   unfolding checks
   checks-none good fits known = rw (good, fits, known)
 
--- what the checks let through: the state is sound, the array is the part's, and the code is a pin and a level
+-- what the checks let through: the state is sound, the array is the part's
+pub lend-passed : (s : State) (len : ℕ) → lendRefusal s len ≡ 0 → (sound s ≡ true) × (fitsPart (s .part) len ≡ true)
+lend-passed s len = go (sound s) (fitsPart (s .part) len)
+  where
+    go : (a b : Bool) → _≡_ {A = ℕ} (cond (not a) 4 (cond (not b) 2 0)) 0 → (a ≡ true) × (b ≡ true)
+    go false b h = absurd (eqb-false 4 0 refl h)
+    go true false h = absurd (eqb-false 2 0 refl h)
+    go true true h = (refl, refl)
+
+pub lend-none : (s : State) (len : ℕ) → sound s ≡ true → fitsPart (s .part) len ≡ true → lendRefusal s len ≡ 0
+lend-none s len good fits = rw (good, fits)
+
+-- and the code is a pin and a level
 pub checks-passed :
     (s : State) (len code : ℕ) → checks s len code ≡ 0 → (sound s ≡ true) × (fitsPart (s .part) len ≡ true) × (code < 12)
 unfolding checks
-checks-passed s len code = go (sound s) (fitsPart (s .part) len) (leb 12 code) refl
+checks-passed s len code = go (eqb (lendRefusal s len) 0) (leb 12 code) refl refl
   where
-    go : (a b t : Bool) → leb 12 code ≡ t → _≡_ {A = ℕ} (cond (not a) 4 (cond (not b) 2 (cond t 5 0))) 0 → (a ≡ true) × (b ≡ true) × (code < 12)
-    go false b t e h = absurd (eqb-false 4 0 refl h)
-    go true false t e h = absurd (eqb-false 2 0 refl h)
-    go true true true e h = absurd (eqb-false 5 0 refl h)
-    go true true false e h = (refl, refl, leb-false 12 code e)
+    go : (fine known : Bool) → eqb (lendRefusal s len) 0 ≡ fine → leb 12 code ≡ known
+        → cond fine (cond known 5 0) (lendRefusal s len) ≡ 0 → (sound s ≡ true) × (fitsPart (s .part) len ≡ true) × (code < 12)
+    go true true p e h = absurd (eqb-false 5 0 refl h)
+    go true false p e h = (lend-passed s len (eqb-true _ _ p) .0, lend-passed s len (eqb-true _ _ p) .1, leb-false 12 code e)
+    go false known p e h = absurd (eqb-false _ _ p h)
 
 -- an accepted event passed the checks, and is a step
 module _ (xs : List ℕ) (s : State) (code : ℕ) (fine : event xs s code .refusal ≡ 0) where

@@ -19,11 +19,14 @@ use Rattle.chip.specs.Examples.Run.{allHold}
 use Rattle.chip.specs.Examples.Starred.{starred}
 use Rattle.chip.specs.Examples.Rules.{ofLines, ofCodes, ofOutput, ofWriting, ofGuards, ofHold, rules}
 use Rattle.chip.specs.Examples.Calls.{allRefused, refusedEvents, allPowered, powerings, allFilled, fillings}
+use Rattle.chip.specs.Examples.Lists.{allListed, listings}
+use Rattle.chip.specs.List.{course, listRefusal, listed}
 use Rattle.chip.specs.Power.{fillRefusal, filled, powerRefusal, powerUp}
 pub mod Run
 pub mod Starred
 pub mod Rules
 pub mod Calls
+pub mod Lists
 
 pub starred-hold : T (allHold starred)
 unfolding clocked starred figureOf command firstProtected mayStore mayKeep afterCode afterAddress nextAddress takeBit bitOf showArray showStatus fall opened codeRise upperRise lowerRise writeRise keepRise rise soundStage csFall csRise sckRise sckFall holdFall holdRise csStayed live step checks event written rests sound isOpen seesRise fillRefusal filled powerRefusal powerUp
@@ -36,3 +39,7 @@ rules-hold = tt
 pub calls-hold : T (allRefused refusedEvents && allPowered powerings && allFilled fillings)
 unfolding refusedEvents powerings fillings figureOf soundStage live step checks event rests sound fillRefusal filled powerRefusal powerUp
 calls-hold = tt
+
+pub lists-hold : T (allListed listings)
+unfolding listings figureOf takeBit bitOf mayStore firstProtected nextAddress showArray fall opened codeRise writeRise rise soundStage csFall csRise sckRise sckFall live step checks event written rests sound course listRefusal listed
+lists-hold = tt

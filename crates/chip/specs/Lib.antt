@@ -1,4 +1,6 @@
 pub mod Event
+pub mod List
+pub mod Loop
 pub mod Answers
 pub mod Power
 pub mod Promises
@@ -8,6 +10,8 @@ pub mod RefusalLaws
 pub mod PowerLaws
 pub mod SoundLaws
 pub mod RunLaws
+pub mod ListLaws
+pub mod ListRuns
 pub mod WatchLaws
 pub mod Outcomes
 pub mod Examples

@@ -9,9 +9,10 @@ use Rattle.laws.specs.TestLaws.{sole}
 use Rattle.select.specs.NoteLaws.{level-sole, note-sole}
 use Rattle.chip.specs.Answers.{Paper, paper}
 use Rattle.chip.specs.Power.{powerUp}
-use Rattle.chip.specs.Promises.{EventPromise, FillPromise}
+use Rattle.chip.specs.Promises.{EventPromise, ListPromise, FillPromise}
 use Rattle.pins.specs.Sound.{sound}
 use Rattle.chip.specs.declared.event.Answer.{Answer}
+use Rattle.chip.specs.declared.list.Listed.{Listed}
 use Rattle.chip.specs.declared.power.Powered.{Powered}
 use Rattle.pins.specs.declared.state.State.{State}
 
@@ -31,6 +32,17 @@ module _ (xs : List ℕ) (s : State) (code : ℕ) where
       → EventPromise xs s code b zs
       → (a ≡ b) × (ys ≡ zs)
   event-sole a b ys zs p q = (paper-sole a b (sole (p .0) (q .0)), sole (p .1) (q .1))
+
+module _ (xs : List ℕ) (s : State) (codes levels : List ℕ) where
+  pub list-sole : (a b : Listed) (ys zs ls ms : List ℕ)
+      → ListPromise xs s codes levels a ys ls
+      → ListPromise xs s codes levels b zs ms
+      → (a ≡ b) × (ys ≡ zs) × (ls ≡ ms)
+  list-sole a b ys zs ls ms p q = (
+    λ i. record { refusal = sole (p .0) (q .0) i; count = sole (p .1) (q .1) i; state = sole (p .2) (q .2) i },
+    sole (p .3) (q .3),
+    sole (p .4) (q .4),
+  )
 
 module _ (part kept : ℕ) (xs : List ℕ) where
   pub power-up-sole : (a b : Powered) → a ≡ powerUp part kept xs → b ≡ powerUp part kept xs → a ≡ b

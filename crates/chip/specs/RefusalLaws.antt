@@ -14,9 +14,9 @@ use Rattle.pins.specs.Edges.{silent, siTo, holdFall, holdRise, wpTo, vddRise}
 use Rattle.pins.specs.Levels.{holdHigh}
 use Rattle.pins.specs.declared.state.State.{State}
 use Rattle.pins.specs.declared.state.Moved.{Moved}
-use Rattle.chip.specs.Event.{accepted, refused, answerOf, csTo, sckTo, holdTo, csStayed, vddTo, live, step, checks, event, written}
+use Rattle.chip.specs.Event.{accepted, refused, answerOf, csTo, sckTo, holdTo, csStayed, vddTo, live, step, checks, tried, event, written}
 use Rattle.chip.specs.declared.event.Answer.{Answer}
-use Rattle.chip.specs.declared.event.Stepped.{Stepped}
+use Rattle.chip.specs.declared.step.Stepped.{Stepped}
 
 module _ (s : State) where
   abbrev Told : Stepped → Type 0
@@ -47,7 +47,7 @@ module _ (s : State) where
 
   tested-told :
       (xs : List ℕ) (code : ℕ)
-      → Told (cond (eqb (checks s (length xs) code) 0) (step (figureOf (s .part)) xs s code) (refused (checks s (length xs) code) s))
+      → Told (tried (figureOf (s .part)) xs s code)
   unfolding step
   tested-told xs code =
       choose Told (eqb (checks s (length xs) code) 0)

@@ -16,10 +16,10 @@ use Rattle.pins.specs.Levels.{csLevel, holdHigh}
 use Rattle.pins.specs.Sound.{sound}
 use Rattle.pins.specs.declared.state.State.{State}
 use Rattle.pins.specs.declared.state.Moved.{Moved}
-use Rattle.chip.specs.Event.{csTo, sckTo, holdTo, csStayed, vddTo, live, step, checks, event, written}
+use Rattle.chip.specs.Event.{csTo, sckTo, holdTo, csStayed, vddTo, live, step, checks, tried, event, written}
 use Rattle.chip.specs.Run.{Chip, next, run}
 use Rattle.chip.specs.SoundLaws.{event-sound}
-use Rattle.chip.specs.declared.event.Stepped.{Stepped}
+use Rattle.chip.specs.declared.step.Stepped.{Stepped}
 
 -- what an event writes keeps the array's length
 pub written-length : (note : Note) (xs : List ℕ) → length (written note xs) ≡ length xs

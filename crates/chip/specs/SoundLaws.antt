@@ -17,7 +17,7 @@ use Rattle.chip.specs.Power.{powerRefusal, powerUp}
 use Rattle.chip.specs.PowerLaws.{part-and-size, fill-and-mask}
 use Rattle.pins.specs.Sound.{sound}
 use Rattle.pins.specs.declared.state.State.{State}
-use Rattle.chip.specs.declared.event.Stepped.{Stepped}
+use Rattle.chip.specs.declared.step.Stepped.{Stepped}
 use Rattle.chip.specs.declared.power.Powered.{Powered}
 use Rattle.pins.specs.SoundLaws.{good, rest-sound, Sound, Keeps, kept-on, cs-fall, cs-rise, sck-rise, sck-fall}
 

@@ -23,7 +23,7 @@ use Rattle.pins.specs.declared.state.State.{State}
 use Rattle.pins.specs.declared.state.Moved.{Moved}
 use Rattle.chip.specs.Event.{accepted, csTo, sckTo, holdTo, csStayed, vddTo, live, dark, step, event}
 use Rattle.chip.specs.EventLaws.{accepted-steps}
-use Rattle.chip.specs.declared.event.Stepped.{Stepped}
+use Rattle.chip.specs.declared.step.Stepped.{Stepped}
 
 -- the stage after an event that takes no bit: as it was, or a select opened or closed, or a fall of SCK
 pub data Unclocked (f : Figure) (xs : List ℕ) (s : State) : Stage → Type 0 where

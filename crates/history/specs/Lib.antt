@@ -6,3 +6,4 @@ pub mod Run
 pub mod Examples
 pub mod Laws
 pub mod PowerCut
+pub mod Lists

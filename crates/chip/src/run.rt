@@ -1,0 +1,113 @@
+// The loop over event codes that the event call and the list call share. It alone calls `step`: a large function called
+// at one place stays in the loop when it is compiled (docs/SPEED.md).
+ghost use mathlib.Core.Path.{_≡_};
+ghost use Prim.Native.Nat.{_≤_};
+ghost use lib.ListN.{length};
+ghost use Rattle.select.specs.Notes.{levelNumber};
+ghost use Rattle.chip.specs.Event.{lendRefusal, checks, tried};
+ghost use Rattle.chip.specs.List.{setOut, course};
+ghost use Rattle.chip.specs.Loop.{courseOf};
+use crate::step::Stepped;
+use crate::step::refuse;
+use crate::step::step;
+use crate::step::store;
+use parts::figures::Figure;
+use parts::figures::figure_of;
+use parts::figures::fits_part;
+use pins::sound::sound;
+use pins::state::State;
+use select::notes::Level;
+use select::notes::Note;
+
+// How far the codes were taken: the refusal that stopped them, or 0, the count of those accepted, the last one's note,
+// and the state that they made.
+pub(crate) struct Ran {
+    pub(crate) refusal: u8,
+    pub(crate) count: usize,
+    pub(crate) note: Note,
+    pub(crate) state: State,
+}
+
+// The refusals of a state and the array that is lent with it; 0 where none is given.
+pub(crate) fn lend_refusal(state: State, len: usize) -> u8
+    ensures { λ r. ⌜ r ≡ lendRefusal state len ⌝ }
+{
+    if !sound(state) {
+        return 4;
+    }
+    if !fits_part(state.part as u64, len) {
+        return 2;
+    }
+    0
+}
+
+// The refusals of an event that need no look at the lines; 0 where none is given.
+fn checks(state: State, len: usize, code: u64) -> u8
+    ensures { λ r. ⌜ r ≡ checks state len code ⌝ }
+{
+    let refusal = lend_refusal(state, len);
+    if refusal != 0 {
+        return refusal;
+    }
+    if 12 <= code {
+        return 5;
+    }
+    0
+}
+
+fn attempt(f: Figure, state: State, array: &[u8], code: u64) -> Stepped
+    ensures { λ r. ⌜ r ≡ tried f (now (array .entry)) state code ⌝ }
+{
+    let refusal = checks(state, array.len(), code);
+    if refusal == 0 {
+        step(f, state, array, code as u8)
+    } else {
+        refuse(refusal, state)
+    }
+}
+
+fn level_number(level: Level) -> u8
+    ensures { λ r. ⌜ r ≡ levelNumber level ⌝ }
+{
+    match level {
+        Level::Low => 0,
+        Level::High => 1,
+        Level::Released => 2,
+    }
+}
+
+// The codes one after the other, up to the first refusal, each one's level of SO at its own place.
+pub(crate) fn run(state: State, array: &mut [u8], codes: &[u64], levels: &mut [u8]) -> Ran
+    requires { ⌜ length (now codes) ≤ length (now levels) ⌝ }
+    ensures { λ r. ⌜ courseOf r (now (array .exit)) (now (levels .exit))
+        ≡ course (setOut 0 state (now (array .entry)) (now (levels .entry))) (now (codes .entry)) ⌝ }
+{
+    let f = figure_of(state.part as u64);
+    let mut state = state;
+    let mut note = Note::Nothing;
+    let mut i = 0;
+    while i < codes.len() {
+        let next = i + 1;
+        let stepped = attempt(f, state, array, codes[i]);
+        let refusal = stepped.refusal;
+        if refusal != 0 {
+            return Ran {
+                refusal,
+                count: i,
+                note: Note::Nothing,
+                state,
+            };
+        }
+        note = stepped.note;
+        state = stepped.state;
+        store(array, note);
+        levels[i] = level_number(state.so());
+        i = next;
+    }
+    Ran {
+        refusal: 0,
+        count: i,
+        note,
+        state,
+    }
+}
