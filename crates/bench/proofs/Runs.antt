@@ -132,7 +132,7 @@ ran-on s lead xs os out t ys out′ e =
     carry (ranFrom s (lead .items)) (tells-ran s (lead .items)) t ys os out′ (pageOf out 0) (started lead xs os)
     (λ i. record { refusal = e i .refusal; stand = e i .stand; array = e i .array; shown = os; page = e i .page })
 
--- the whole run, where a number that leads the trace is refusedAt
+-- the whole run, where a number that leads the trace is refused
 pub replayed-not :
     (s os out : List ℕ) (lead : Head) (chip : State) (stand : Stand)
     → lead ≡ headOf s → (lead .refusal ≡ 0 → ⊥) → chip ≡ atRest 1 0 false → stand ≡ noEvent chip

@@ -1,5 +1,5 @@
 -- Demand 3 over lists: whatever lists a bench sends, what a power cut leaves is the history's over the events that were
--- acceptedOf. Assumes nothing.
+-- accepted. Assumes nothing.
 use Prim.Native.Nat.{ℕ}
 use mathlib.Core.List.{List, [], _∷_, _++_}
 use mathlib.Core.Path.{_≡_, refl, sym, ap, _∙_}
@@ -27,7 +27,7 @@ unfoldable pub sent : Chip → List Sending → Chip
 sent c [] = c
 sent c (l ∷ ls) = sent (courseChip (sending c l)) ls
 
--- the events that were acceptedOf, in order
+-- the events that were accepted, in order
 unfoldable pub acceptedOf : Chip → List Sending → List ℕ
 acceptedOf c [] = []
 acceptedOf c (l ∷ ls) = take (sending c l .count) (l .codes) ++ acceptedOf (courseChip (sending c l)) ls
@@ -48,7 +48,7 @@ module _ (part kept : ℕ) (array : List ℕ) (ls : List Sending) (fine : powerU
   pub lists-every-moment : worldOf (sent (fromPowerUp part kept array) ls) ≡ history part kept array told
   lists-every-moment = ap worldOf (sent-runs (fromPowerUp part kept array) ls) ∙ every-moment part kept array told fine
 
-  -- a cut after the last event that was acceptedOf; one before it is that of a shorter list
+  -- a cut after the last event that was accepted; one before it is that of a shorter list
   pub lists-power-cut :
       run (sent (fromPowerUp part kept array) ls) (10 ∷ 11 ∷ [])
       ≡ poweredUp part (history part kept array told .kept) (history part kept array told .array)

@@ -17,7 +17,7 @@ pub record Told : Type 0 where
   pub value : Value
   pub place : ℕ
 
--- "An numberRead read gives the number and the place after it"
+-- "An accepted read gives the number and the place after it"
 abbrev pub numberRead : ℕ → ℕ → Told
 numberRead n next = record { refusal = 0; value = num n; place = next }
 
@@ -25,11 +25,11 @@ numberRead n next = record { refusal = 0; value = num n; place = next }
 abbrev pub ended : ℕ → Told
 ended at = record { refusal = 0; value = end; place = at }
 
--- "an numberRead write gives the place after it": the value that it gives is 0
+-- "an accepted write gives the place after it": the value that it gives is 0
 abbrev pub placed : ℕ → Told
 placed next = record { refusal = 0; value = num 0; place = next }
 
--- "A refusedAt read or write returns its number, the value 0 and the place given."
+-- "A refused read or write returns its number, the value 0 and the place given."
 abbrev pub refusedAt : ℕ → ℕ → Told
 refusedAt row at = record { refusal = row; value = num 0; place = at }
 

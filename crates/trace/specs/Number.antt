@@ -10,7 +10,7 @@ use Rattle.trace.specs.declared.answer.Refusal.the-variants.{Malformed, 
 use Rattle.trace.specs.Form.{bytes, value, misshapen, form}
 
 -- The bytes of a number that begins at a place before the end: 8, then 9; else
--- "An numberRead read gives the number and the place after it".
+-- "An accepted read gives the number and the place after it".
 abbrev pub judged : List ℕ → ℕ → Told
 judged bs at =
     cond (misshapen groups bs) (refusedAt (numberOf Malformed) at)
@@ -32,7 +32,7 @@ writing s at n =
     (cond (ltb (length s - at) (length (form n))) (refusedAt (numberOf NoRoom) at)
     (placed (at + length (form n)))))
 
--- "an numberRead write .. changes only the number's own bytes"
+-- "an accepted write .. changes only the number's own bytes"
 abbrev pub over : List ℕ → ℕ → List ℕ → List ℕ
 over s at bs = take at s ++ bs ++ drop (at + length bs) s
 

@@ -1,5 +1,5 @@
 -- The laws of trace numbers, over the definitions that the contracts cite.
---     reads-back, write-reads-back     a number that is sliceWritten reads back as sliceWritten, with the place after it, whatever stands around it
+--     reads-back, write-reads-back     a number that is written reads back as written, with the place after it, whatever stands around it
 --     read-form, one-form              each number has one form only: two byte strings that read as one number are the same bytes
 --     form-fits, form-shortest         the form has at most `groups` bytes, and no bytes of the same value are fewer
 --     forward, less-left               reading moves forward, and stays in the slice; so a loop over it ends
@@ -43,7 +43,7 @@ value-small (b ∷ bs) = let h = value-small bs in omega (arith, pow-succ' 128 (
 pub form-shortest : (b : ℕ) (bs : List ℕ) → length (form (value (b ∷ bs))) ≤ length (b ∷ bs)
 form-shortest b bs = few (form-spells (length bs) (value (b ∷ bs)) (value-small (b ∷ bs)))
 
--- ---- a number that is sliceWritten reads back as sliceWritten
+-- ---- a number that is written reads back as written
 
 there : (s ys : List ℕ) (at n : ℕ) → n ≤ largest → at ≤ length s → drop at s ≡ form n ++ ys → reading s at ≡ numberRead n (at + length (form n))
 there s ys at n h p e =
@@ -56,7 +56,7 @@ pub reads-back : (xs ys : List ℕ) (n : ℕ) → n ≤ largest → reading (xs 
 reads-back xs ys n h =
     there (xs ++ (form n ++ ys)) ys (length xs) n h (omega (arith, length-append xs (form n ++ ys))) (drop-append-seam xs (form n ++ ys))
 
--- ---- what an numberRead call shows
+-- ---- what an accepted call shows
 
 no-row : {row at n next : ℕ} → refusedAt (suc row) at ≡ numberRead n next → ⊥
 no-row e = let z = ap (λ (t : Told). t .refusal) e in omega arith
@@ -80,7 +80,7 @@ write-reads-back s at n next e =
     ∙ there (over s at (form n)) rest at n (p .0) room (ap (drop at) (append-assoc (take at s) (form n) rest) ∙ drop-at (take at s) (form n ++ rest) at front)
     ∙ ap (numberRead n) (sym (p .2))
 
--- ---- an numberRead read
+-- ---- an accepted read
 
 not-end : {at n next : ℕ} → ended at ≡ numberRead n next → ⊥
 not-end {n = n} e = let z : _≡_ {A = ℕ} 0 1 = cc (ap (λ (t : Told). t .value) e) in omega arith

@@ -131,7 +131,7 @@ allFilled (c ∷ cs) =
     && same (filled (c .part) (replicate (c .len) 0xEE)) (replicate (c .len) (c .byte))
     && allFilled cs
 
--- "Filling a noBits array with 00 checks 1, 2." "Lent memory stays at every refusal."
+-- "Filling a fresh array with 00 checks 1, 2." "Lent memory stays at every refusal."
 unfoldable pub fillings : List Filling
 fillings =
     fills 0 0 1 0xEE ∷ fills 4 511 1 0xEE ∷ fills 1 511 2 0xEE ∷ fills 2 513 2 0xEE ∷ fills 3 512 2 0xEE

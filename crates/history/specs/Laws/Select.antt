@@ -49,7 +49,7 @@ module _ (f : Figure) (w : World) where
   select-fall xs status closed = closed
   select-fall xs status (going read r c e i) = going read r c e (image-fall f xs status i)
 
-  -- a noBits select
+  -- a select that just opened
   pub select-fresh : Selected f w (inside []) w (Code noBits)
   unfolding effect readTransfer bitsValue
   select-fresh = going (readTransfer f) [] (cut-none f) refl code
