@@ -33,9 +33,6 @@ pub course-turns : (c : Course) (code : ℕ) (codes : List ℕ) → eqb (c .refu
 unfolding course
 course-turns c code codes e = rw e
 
-pub turn-goes : (c : Course) (a : Answer) → a .refusal ≡ 0 → turn c a ≡ tookOne c a
-turn-goes c a e = rw (eq-eqb _ _ e)
-
 pub turn-stops : (c : Course) (a : Answer) → (a .refusal ≡ 0 → ⊥) → turn c a ≡ stopsAt c (a .refusal)
 turn-stops c a e = rw (ne-eqb _ _ e)
 
@@ -47,7 +44,7 @@ unfolding course
 loop-ends c codes i e = sym (ap (λ (n : ℕ). course c (drop n codes)) e ∙ ap (course c) (drop-length codes))
 
 module _ (xs : List ℕ) (s : State) (levels codes : List ℕ) (note : Note) (i : ℕ) (more : i < length codes) where
-  abbrev pub here : Course
+  abbrev here : Course
   here = record { refusal = 0; count = i; note = note; state = s; array = xs; levels = levels }
 
   abbrev code : ℕ
@@ -82,7 +79,7 @@ module _ (xs : List ℕ) (s : State) (levels codes : List ℕ) (note : Note) (i 
         ∙ ap (λ (c : Course). course c (drop (i + 1) codes)) (ap (turn here) (sym told) ∙ turn-stops here (answerOf t) e)
         ∙ course-stays (stopsAt here (t .refusal)) (drop (i + 1) codes) (ne-eqb _ _ e))
 
--- ---- one event is the list of one code
+-- ---- what the loop over one code leaves is the event's answer
 
 abbrev stepOf : Course → Stepped
 stepOf c = record { refusal = c .refusal; note = c .note; state = c .state }

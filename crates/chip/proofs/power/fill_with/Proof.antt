@@ -22,11 +22,13 @@ loop-holds : tie.Need-loop-holds Inv-loop μ-loop
 loop-holds c = (fill-none (c .args .array .now) (c .args .byte), zero-le, refl)
 
 loop-again : tie.Need-loop-again Inv-loop μ-loop
-loop-again c = (
-  ap (λ (l : List ℕ). set l (c .before .loop .i) (c .before .before .args .byte)) (c .before .loop .inv .0) ∙ fill-more (c .before .loop .i) (c .before .before .args .byte) (c .before .before .args .array .now) (omega arith),
-  omega arith,
-  length-set (c .before .loop .array) _ _ ∙ c .before .loop .inv .2,
-)
+loop-again c =
+    let at = c .before .loop in
+    let a = c .before .before .args in (
+      ap (λ (l : List ℕ). set l (at .i) (a .byte)) (at .inv .0) ∙ fill-more (at .i) (a .byte) (a .array .now) (omega arith),
+      omega arith,
+      length-set (at .array) _ _ ∙ at .inv .2,
+    )
 
 same-length : tie.Need-same-length Inv-loop μ-loop
 same-length c = c .before .loop .inv .2

@@ -178,7 +178,8 @@ module _ {M : Type 1} (𝓤 : URA M) (H : Heap 𝓤) (A : Atoms 𝓤) (W : Given
         pass0 ! $
         move ! (12 ∷ []) $ use1 W (raw (Open 𝓤 H A at-mem run .pre to-open) ⊛ ‵ Own) goes-open $ split ! $
         calls-at ! fm (Open 𝓤 H A at-mem run) known-open to-open (and-then ! (load ! (from ! (stop !)) (look ! 10 refl)) (and-then ! (load ! (from ! (stop !)) (look ! 8 refl)) (no-more !))) (λ u.
-        use1 W (later (some (λ (r : Reader). ((‵ (flft κ q) ⊛ ‵ ftrue) ⊛ ‵ (R .own r (u ∷ []))) ⊛ raw (ensured 𝓤 H A opening.ended (opening.clauses 𝓤 H A at-mem run) (κ, tt) (s, (n, tt)) tt r)))) (id⊢ 𝓤 _) $ await ! tt $ pick ! (λ r.
+        use1 W (later (some (λ (r : Reader). ((‵ (flft κ q) ⊛ ‵ ftrue) ⊛ ‵ (R .own r (u ∷ [])))
+        ⊛ raw (ensured 𝓤 H A opening.ended (opening.clauses 𝓤 H A at-mem run) (κ, tt) (s, (n, tt)) tt r)))) (id⊢ 𝓤 _) $ await ! tt $ pick ! (λ r.
         split ! $ move ! (1 ∷ []) $ use1 W (raw (fact 𝓤 (r ≡ readerAt s n))) (open-said r) $ heard ! (r ≡ readerAt s n) (λ e. split ! $ move ! (1 ∷ []) $
         -- [what the struct owns; the token; what s owns; room for _5; …; _4; …; _3; …; _2; …; _1; …; room for _0; …]
         peeks ! R (Is R) (shows 𝓤 H A R) r (u ∷ []) (λ is.
@@ -187,14 +188,16 @@ module _ {M : Type 1} (𝓤 : URA M) (H : Heap 𝓤) (A : Atoms 𝓤) (W : Given
         assigns ! (addr ! (from ! (stop !))) (from ! (stop !)) (init ! 3 refl (tt, tt)) $
         -- the local is lent, for a new lifetime within the slice's
         move ! (7 ∷ 0 ∷ []) $ use2 W (‵ (mem R .lies r l₃ 0)) (lies r u l₃) $ lft-new ! tt (λ ν. move ! (1 ∷ []) $
-        use1 W (later (some (λ (γ : GName). ‵ (MutRef (named 0) (ν ∷ κ) R .own (lent r l₃ γ .0) (vptr l₃ 0 ∷ [])) ⊛ ‵ (flent (ν ∷ κ) (Body (mem R) l₃ 0 γ))))) (lends-ref 𝓤 H A W R (named 0) (ν ∷ κ) r l₃ 0) $ await ! tt $ pick ! (λ γ. split ! $
+        use1 W (later (some (λ (γ : GName). ‵ (MutRef (named 0) (ν ∷ κ) R .own (lent r l₃ γ .0) (vptr l₃ 0 ∷ [])) ⊛ ‵ (flent (ν ∷ κ) (Body (mem R) l₃ 0 γ)))))
+        (lends-ref 𝓤 H A W R (named 0) (ν ∷ κ) r l₃ 0) $ await ! tt $ pick ! (λ γ. split ! $
         -- [the reference; the lender's part; ν's token; the token; what s owns; _5; …; _4; …; …; _2; …; _1; …; room for _0; …]
         move ! (3 ∷ []) $ split ! $ use1 W (‵ (flft κ qₗ) ⊛ ‵ (flft κ qᵣ)) (W .lfts .lft-split κ q) $ split ! $
         move ! (5 ∷ 0 ∷ []) $ use2 W (‵ (flft (ν ∷ κ) qₗ) ⊛ raw (Rest 𝓤 H A W ν qₗ)) (within-token 𝓤 H A W ν κ qₗ) $ split ! $
         -- [the token of ν within κ; the way back; the other half; true; the reference; the lender's part; what s owns; _5; …]
         move ! (0 ∷ 2 ∷ 4 ∷ []) $ use3 W (raw (Next 𝓤 H A at-mem run .pre (to-next ν r l₃ γ))) (goes-next ν r l₃ γ) $
         calls-at ! fm (Next 𝓤 H A at-mem run) known-next (to-next ν r l₃ γ) (and-then ! (load ! (from ! (stop !)) (look ! 5 refl)) (no-more !)) (λ u′.
-        use1 W (later (some (λ (t : Read). ((‵ (flft (ν ∷ κ) qₗ) ⊛ ‵ (flft κ qᵣ) ⊛ ‵ ftrue) ⊛ ‵ (S.the-row .own t (u′ ∷ []))) ⊛ some (λ (ws : Reader × Unit {0}). ‵ (lasts next.ended (ν ∷ κ, (κ, tt)) (lent r l₃ γ) ws) ⊛ raw (fact 𝓤 (NextPromise r t (ws .0))))))) (id⊢ 𝓤 _) $ await ! tt $ pick ! (λ t.
+        use1 W (later (some (λ (t : Read). ((‵ (flft (ν ∷ κ) qₗ) ⊛ ‵ (flft κ qᵣ) ⊛ ‵ ftrue) ⊛ ‵ (S.the-row .own t (u′ ∷ [])))
+        ⊛ some (λ (ws : Reader × Unit {0}). ‵ (lasts next.ended (ν ∷ κ, (κ, tt)) (lent r l₃ γ) ws) ⊛ raw (fact 𝓤 (NextPromise r t (ws .0))))))) (id⊢ 𝓤 _) $ await ! tt $ pick ! (λ t.
         split ! $ move ! (1 ∷ []) $ pick ! (λ ws. split ! $ move ! (1 ∷ []) $ heard ! (NextPromise r t (ws .0)) (λ f. fsplit ! $ move ! (2 ∷ []) $ split ! $
         split ! $
         -- [the token of ν within κ; the other half; the answer; the local's last value; …; the way back; …; the lender's part; what s owns; _5; …]
@@ -222,7 +225,8 @@ number-at-meets : {M : Type 1} (𝓤 : URA M) (H : Heap 𝓤) (A : Atoms 𝓤) (
     → Triple 𝓤 (𝓣 .C #open) (Open 𝓤 H A mem run) → Triple 𝓤 (𝓣 .C #next) (Next 𝓤 H A mem run)
     → Meets 𝓤 H A number-at.signature (WpFn 𝓤 H (𝓣 .C) (𝓣 .Λ) code.function) (number-at.spec 𝓤 H A mem run)
 number-at-meets 𝓤 H A W mem run 𝓣 known-open known-next =
-    walk-meets 𝓤 H A number-at.ended stayed W (goes-none-slice 𝓤 H A W 1 (0 ∷ []) tt (plain (λ _. u8)) yes, (goes-none 𝓤 H A W 1 (λ _. usize) yes (λ κs x f. refl), tt)) (number-at.clauses 𝓤 H A mem run) (WpFn 𝓤 H (𝓣 .C) (𝓣 .Λ) code.function) (WpFn-mono 𝓤 H (W .laws) 𝓣 code.function)
+    walk-meets 𝓤 H A number-at.ended stayed W (goes-none-slice 𝓤 H A W 1 (0 ∷ []) tt (plain (λ _. u8)) yes, (goes-none 𝓤 H A W 1 (λ _. usize) yes (λ κs x f. refl), tt))
+    (number-at.clauses 𝓤 H A mem run) (WpFn 𝓤 H (𝓣 .C) (𝓣 .Λ) code.function) (WpFn-mono 𝓤 H (W .laws) 𝓣 code.function)
     (number-at-walks 𝓤 H A W mem run (𝓣 .C) (𝓣 .Λ) (fmOf 𝓤 H (W .laws) 𝓣) known-open known-next)
 
 pub number-at-spec : {M : Type 1} → stated.statement M
