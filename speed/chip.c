@@ -1,4 +1,4 @@
-/* Document 01 by hand in C. Its author had read the Rattle sources too; every rule was taken from the document. */
+/* Documents 01 and 02 by hand in C. Its author had read the Rattle sources too; every rule was taken from the document. */
 #include "chip.h"
 #include <string.h>
 
@@ -50,6 +50,14 @@ static int take(struct chip *c)
     return 1;
 }
 
+/* Of a data byte: /WP is read at its first bit (Wish 2). */
+static int take_data(struct chip *c)
+{
+    if (c->bits == 0)
+        c->byte_wp = c->wp;
+    return take(c);
+}
+
 static uint32_t first_guarded(const struct chip *c)
 {
     switch (c->kept >> 2 & 3) {
@@ -82,7 +90,7 @@ static void op_code(struct chip *c)
 
 static void data_byte(struct chip *c)
 {
-    int reason = !c->latch ? 1 : c->p->guards_array && !c->wp ? 2 : first_guarded(c) <= c->at ? 3 : 0;
+    int reason = !c->latch ? 1 : c->p->guards_array && !c->byte_wp ? 2 : first_guarded(c) <= c->at ? 3 : 0;
     if (reason) {
         note(c, HELD_BACK, c->at, reason);
     } else {
@@ -96,7 +104,7 @@ static void data_byte(struct chip *c)
 static void status_in(struct chip *c)
 {
     int guarded = c->p->guards_array || (c->kept & c->p->enable);
-    int reason = !c->latch ? 1 : guarded && !c->wp ? 2 : 0;
+    int reason = !c->latch ? 1 : guarded && !c->byte_wp ? 2 : 0;
     if (reason) {
         note(c, KEPT_HELD_BACK, 0, reason);
     } else {
@@ -127,11 +135,11 @@ static void sck_rise(struct chip *c)
         }
         break;
     case WRITING:
-        if (take(c))
+        if (take_data(c))
             data_byte(c);
         break;
     case KEEPING:
-        if (take(c))
+        if (take_data(c))
             status_in(c);
         break;
     }

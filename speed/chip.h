@@ -1,4 +1,4 @@
-/* The chip of document 01, by hand in C: the state in a struct by pointer, a switch on the event's code. */
+/* The chip of documents 01 and 02 (to Wish 2), by hand in C: the state in a struct by pointer, a switch on the event's code. */
 #ifndef CHIP_H
 #define CHIP_H
 #include <stdint.h>
@@ -19,7 +19,7 @@ struct chip {
     uint8_t *array;
     uint32_t at;
     uint8_t stage, bits, byte, bit, write, status, whole;
-    uint8_t kept, power, cs, sck, si, hold, wp, held_cs, latch, so;
+    uint8_t kept, power, cs, sck, si, hold, wp, byte_wp, held_cs, latch, so;
     /* The last event's note. */
     uint8_t note, note_value;
     uint32_t note_at;

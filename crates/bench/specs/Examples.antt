@@ -9,6 +9,7 @@ use Rattle.parts.specs.Figures.{figureOf}
 use Rattle.parts.specs.Commands.{command}
 use Rattle.stages.specs.Address.{afterCode}
 use Rattle.stages.specs.Bits.{takeBit, bitOf}
+use Rattle.stages.specs.Wp.{byteWp, byteCame}
 use Rattle.stages.specs.Sound.{soundStage}
 use Rattle.select.specs.Fall.{showArray, showStatus, fall}
 use Rattle.select.specs.Rise.{opened, codeRise, rise}
@@ -90,5 +91,5 @@ traces =
     ∷ []
 
 examples : T (all traces)
-unfolding all traces figureOf command afterCode takeBit bitOf showArray showStatus fall opened codeRise rise soundStage csFall csRise sckRise sckFall live step checks event written rests sound isOpen seesRise reading fillRefusal filled powerRefusal powerUp clocked itemEvents counted codeAfter sampled risen shownAfter noted leading headOf afterEvent afterItem itemsFrom ranFrom started ran replayed closes clockedBy shownBy after codeText shownText partLine countsText selectLine endLine capitals hex decimal report
+unfolding all traces figureOf command afterCode takeBit byteWp byteCame bitOf showArray showStatus fall opened codeRise rise soundStage csFall csRise sckRise sckFall live step checks event written rests sound isOpen seesRise reading fillRefusal filled powerRefusal powerUp clocked itemEvents counted codeAfter sampled risen shownAfter noted leading headOf afterEvent afterItem itemsFrom ranFrom started ran replayed closes clockedBy shownBy after codeText shownText partLine countsText selectLine endLine capitals hex decimal report
 examples = tt

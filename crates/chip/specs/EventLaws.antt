@@ -9,7 +9,9 @@ use borrow.Author.Tests.{eqb-false, eqb-true, eq-eqb, ne-eqb, leb-false}
 use Rattle.parts.specs.Figures.{figureOf, fitsPart}
 use Rattle.parts.specs.declared.figures.Figure.{Figure}
 use Rattle.chip.specs.Event.{lendRefusal, checks, tried, event, step, refused, answerOf}
-use Rattle.pins.specs.Sound.{sound}
+use Rattle.pins.specs.Sound.{soundBy, sound}
+use Rattle.pins.specs.SoundLaws.{sound-row}
+use Rattle.laws.specs.TestLaws.{denied, granted}
 use Rattle.pins.specs.declared.state.State.{State}
 use Rattle.chip.specs.declared.event.Answer.{Answer}
 use Rattle.chip.specs.declared.step.Stepped.{Stepped}
@@ -47,6 +49,23 @@ lend-passed s len = go (sound s) (fitsPart (s .part) len)
 
 pub lend-none : (s : State) (len : ℕ) → sound s ≡ true → fitsPart (s .part) len ≡ true → lendRefusal s len ≡ 0
 lend-none s len good fits = rw (good, fits)
+
+-- the code that has the part's row tests by it
+module _ (f : Figure) (s : State) (len : ℕ) (row : f ≡ figureOf (s .part)) {good : Bool} (told : good ≡ soundBy f s) where
+  by-row : good ≡ sound s
+  by-row = told ∙ sound-row s row
+
+  by-size : {t : Bool} → eqb len (f .size) ≡ t → fitsPart (s .part) len ≡ t
+  by-size e = ap (λ (g : Figure). eqb len (g .size)) (sym row) ∙ e
+
+  pub lend-unsound : not good ≡ true → 4 ≡ lendRefusal s len
+  lend-unsound h = rw (denied by-row h)
+
+  pub lend-misfits : not good ≡ false → (len ≡ f .size → ⊥) → 2 ≡ lendRefusal s len
+  lend-misfits h e = rw (granted by-row h, by-size (ne-eqb _ _ e))
+
+  pub lend-fine : not good ≡ false → len ≡ f .size → 0 ≡ lendRefusal s len
+  lend-fine h e = rw (granted by-row h, by-size (eq-eqb _ _ e))
 
 -- and the code is a pin and a level
 pub checks-passed :

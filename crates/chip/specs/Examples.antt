@@ -8,6 +8,7 @@ use Rattle.parts.specs.Commands.{command}
 use Rattle.parts.specs.Guards.{firstProtected, mayStore, mayKeep}
 use Rattle.stages.specs.Address.{afterCode, afterAddress, nextAddress}
 use Rattle.stages.specs.Bits.{takeBit, bitOf}
+use Rattle.stages.specs.Wp.{byteWp, byteCame}
 use Rattle.stages.specs.Sound.{soundStage}
 use Rattle.select.specs.Fall.{showArray, showStatus, fall}
 use Rattle.select.specs.Rise.{opened, codeRise, upperRise, lowerRise, writeRise, keepRise, rise}
@@ -29,11 +30,11 @@ pub mod Calls
 pub mod Lists
 
 pub starred-hold : T (allHold starred)
-unfolding clocked starred figureOf command firstProtected mayStore mayKeep afterCode afterAddress nextAddress takeBit bitOf showArray showStatus fall opened codeRise upperRise lowerRise writeRise keepRise rise soundStage csFall csRise sckRise sckFall holdFall holdRise csStayed live step checks event written rests sound isOpen seesRise fillRefusal filled powerRefusal powerUp
+unfolding clocked starred figureOf command firstProtected mayStore mayKeep afterCode afterAddress nextAddress takeBit byteWp byteCame bitOf showArray showStatus fall opened codeRise upperRise lowerRise writeRise keepRise rise soundStage csFall csRise sckRise sckFall holdFall holdRise csStayed live step checks event written rests sound isOpen seesRise fillRefusal filled powerRefusal powerUp
 starred-hold = tt
 
 pub rules-hold : T (allHold rules)
-unfolding clocked rules ofLines ofCodes ofOutput ofWriting ofGuards ofHold figureOf command firstProtected mayStore mayKeep afterCode afterAddress nextAddress takeBit bitOf showArray showStatus fall opened codeRise upperRise lowerRise writeRise keepRise rise soundStage csFall csRise sckRise sckFall holdFall holdRise csStayed live step checks event written rests sound isOpen seesRise fillRefusal filled powerRefusal powerUp
+unfolding clocked rules ofLines ofCodes ofOutput ofWriting ofGuards ofHold figureOf command firstProtected mayStore mayKeep afterCode afterAddress nextAddress takeBit byteWp byteCame bitOf showArray showStatus fall opened codeRise upperRise lowerRise writeRise keepRise rise soundStage csFall csRise sckRise sckFall holdFall holdRise csStayed live step checks event written rests sound isOpen seesRise fillRefusal filled powerRefusal powerUp
 rules-hold = tt
 
 pub calls-hold : T (allRefused refusedEvents && allPowered powerings && allFilled fillings)
@@ -41,5 +42,5 @@ unfolding refusedEvents powerings fillings figureOf soundStage live step checks 
 calls-hold = tt
 
 pub lists-hold : T (allListed listings)
-unfolding listings figureOf takeBit bitOf mayStore firstProtected nextAddress showArray fall opened codeRise writeRise rise soundStage csFall csRise sckRise sckFall live step checks event written rests sound course listRefusal listed
+unfolding listings figureOf takeBit byteWp byteCame bitOf mayStore firstProtected nextAddress showArray fall opened codeRise writeRise rise soundStage csFall csRise sckRise sckFall live step checks event written rests sound course listRefusal listed
 lists-hold = tt

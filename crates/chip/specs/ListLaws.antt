@@ -1,21 +1,22 @@
 -- A list of events turn by turn: how one more code moves its course, and what a refused one leaves. Assumes nothing.
 use Prim.Native.Nat.{ℕ, _+_, _<_, _≤_}
 use mathlib.Core.Path.{_≡_, refl, sym, ap, _∙_}
-use mathlib.Core.Bool.{Bool, true, false, cond}
+use mathlib.Core.Bool.{Bool, true, false, cond, not}
 use mathlib.Core.List.{List, [], _∷_}
 use native.Mathlib.Numerals.{add-one}
 use borrow.Author.Tests.{eq-eqb, ne-eqb, eqb-true, eqb-false, ltb-false, le-ltb}
 use lib.Dec.{eqb, ltb}
 use lib.ListN.{length, set, drop, getD}
 use lib.Seq.{drop-cons, drop-length}
-use Rattle.parts.specs.Figures.{figureOf}
+use Rattle.parts.specs.Figures.{figureOf, fitsPart}
 use Rattle.parts.specs.declared.figures.Figure.{Figure}
 use Rattle.select.specs.Notes.{levelNumber}
 use Rattle.select.specs.declared.notes.Level.{Level}
 use Rattle.select.specs.declared.notes.Note.{Note}
 use Rattle.pins.specs.Levels.{soLevel}
+use Rattle.pins.specs.Sound.{sound}
 use Rattle.pins.specs.declared.state.State.{State}
-use Rattle.chip.specs.Event.{answerOf, lendRefusal, tried, event, written}
+use Rattle.chip.specs.Event.{refused, answerOf, step, first, lendRefusal, checks, tried, event, written}
 use Rattle.chip.specs.List.{Course, setOut, tookOne, stopsAt, turn, course, listRefusal, listed}
 use Rattle.chip.specs.RefusalLaws.{refusal-told, refusal-stays}
 use Rattle.chip.specs.RunLaws.{event-part}
@@ -113,6 +114,55 @@ module _ (xs : List ℕ) (s : State) (code : ℕ) (levels : List ℕ) where
   unfolding course
   single e = rw e turned
 
+-- ---- the code 12 is no event: the loop over it alone says what the first checks give, and moves nothing
+
+-- 5 says that they give nothing
+abbrev heard : ℕ → ℕ
+heard refusal = cond (eqb refusal 5) 0 refusal
+
+abbrev given : Bool → Bool → ℕ
+given good fits = first (cond (not good) 4 (cond (not fits) 2 0)) 5
+
+module _ (s : State) (xs levels : List ℕ) where
+  abbrev lends : ℕ
+  lends = lendRefusal s (length xs)
+
+  refused-twelve : turn (setOut 0 s xs levels) (event xs s 12) ≡ setOut (first lends 5) s xs levels
+  unfolding event checks
+  refused-twelve = go (sound s) (fitsPart (s .part) (length xs))
+    where
+      go : (a b : Bool)
+          → turn (setOut 0 s xs levels) (answerOf (cond (eqb (given a b) 0) (step (figureOf (s .part)) xs s 12) (refused (given a b) s)))
+          ≡ setOut (given a b) s xs levels
+      go true true = refl
+      go true false = refl
+      go false b = refl
+
+  heard-lends : heard (first lends 5) ≡ lends
+  heard-lends = go (sound s) (fitsPart (s .part) (length xs))
+    where
+      go : (a b : Bool) → heard (given a b) ≡ cond (not a) 4 (cond (not b) 2 0)
+      go true true = refl
+      go true false = refl
+      go false b = refl
+
+  module _ {c : Course} (ran : c ≡ course (setOut 0 s xs levels) (12 ∷ [])) where
+    asked : c ≡ setOut (first lends 5) s xs levels
+    unfolding course
+    asked = ran ∙ refused-twelve
+
+    said : heard (c .refusal) ≡ lends
+    said = ap (λ (d : Course). heard (d .refusal)) asked ∙ heard-lends
+
+    pub asked-none : c .refusal ≡ 5 → 0 ≡ lends
+    asked-none e = ap heard (sym e) ∙ said
+
+    pub asked-some : (c .refusal ≡ 5 → ⊥) → c .refusal ≡ lends
+    asked-some e = rw (ne-eqb _ _ e) at said
+
+    pub asked-stays : c .array ≡ xs
+    asked-stays = ap (λ (d : Course). d .array) asked
+
 -- ---- the call, by what its first checks give
 
 module _ (xs : List ℕ) (s : State) (codes levels : List ℕ) where
@@ -142,3 +192,26 @@ list-passed s len codes levels = go (eqb (lendRefusal s len) 0) (ltb levels code
 pub list-none : (s : State) (len codes levels : ℕ) → lendRefusal s len ≡ 0 → codes ≤ levels → listRefusal s len codes levels ≡ 0
 unfolding listRefusal
 list-none s len codes levels fine enough = rw (eq-eqb _ _ fine, le-ltb levels codes enough)
+
+-- the answers have room where nothing is given
+pub call-room : (lent codes levels : ℕ) {r : ℕ} → r ≡ first lent (cond (ltb levels codes) 12 0) → r ≡ 0 → codes ≤ levels
+call-room lent codes levels told e = go (eqb lent 0) (ltb levels codes) refl refl (sym told ∙ e)
+  where
+    go : (fine short : Bool) → eqb lent 0 ≡ fine → ltb levels codes ≡ short → cond fine (cond short 12 0) lent ≡ 0 → codes ≤ levels
+    go true true p q h = absurd (eqb-false 12 0 refl h)
+    go true false p q h = ltb-false _ _ q
+    go false short p q h = absurd (eqb-false _ _ p h)
+
+-- the call: what it asked first is what its checks give, and the array is as it was
+module _ (xs : List ℕ) (s : State) (codes levels : List ℕ) {lent r : ℕ} {ys : List ℕ} (lend : lent ≡ lendRefusal s (length xs)) (stays : ys ≡ xs)
+    (told : r ≡ first lent (cond (ltb (length levels) (length codes)) 12 0)) where
+  found : r ≡ listRefusal s (length xs) (length codes) (length levels)
+  unfolding listRefusal
+  found = told ∙ ap (λ (n : ℕ). first n (cond (ltb (length levels) (length codes)) 12 0)) lend
+
+  pub call-runs : {c : Course} → r ≡ 0 → c ≡ course (setOut 0 s ys levels) codes → c ≡ listed xs s codes levels
+  call-runs e ran =
+      ran ∙ ap (λ (zs : List ℕ). course (setOut 0 s zs levels) codes) stays ∙ sym (listed-runs xs s codes levels (sym found ∙ e))
+
+  pub call-stops : (r ≡ 0 → ⊥) → setOut r s ys levels ≡ listed xs s codes levels
+  call-stops e = rw (found, stays) (sym (listed-stops xs s codes levels (λ z. e (found ∙ z))))

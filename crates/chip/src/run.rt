@@ -1,8 +1,9 @@
-// The loop over event codes that the event call and the list call share. It alone calls `step`: a large function called
-// at one place stays in the loop when it is compiled (docs/SPEED.md).
+// The loop over event codes that the event call and the list call share. It alone calls `step` and tests the state: a large
+// function called at one place stays in the loop when it is compiled (docs/SPEED.md).
 ghost use mathlib.Core.Path.{_≡_};
 ghost use Prim.Native.Nat.{_≤_};
 ghost use lib.ListN.{length};
+ghost use Rattle.parts.specs.Figures.{figureOf};
 ghost use Rattle.select.specs.Notes.{levelNumber};
 ghost use Rattle.chip.specs.Event.{lendRefusal, checks, tried};
 ghost use Rattle.chip.specs.List.{setOut, course};
@@ -13,8 +14,7 @@ use crate::step::step;
 use crate::step::store;
 use parts::figures::Figure;
 use parts::figures::figure_of;
-use parts::figures::fits_part;
-use pins::sound::sound;
+use pins::sound::sound_by;
 use pins::state::State;
 use select::notes::Level;
 use select::notes::Note;
@@ -29,23 +29,25 @@ pub(crate) struct Ran {
 }
 
 // The refusals of a state and the array that is lent with it; 0 where none is given.
-pub(crate) fn lend_refusal(state: State, len: usize) -> u8
+fn lend_refusal(f: Figure, state: State, len: usize) -> u8
+    requires { ⌜ f ≡ figureOf (state .part) ⌝ }
     ensures { λ r. ⌜ r ≡ lendRefusal state len ⌝ }
 {
-    if !sound(state) {
+    if !sound_by(f, state) {
         return 4;
     }
-    if !fits_part(state.part as u64, len) {
+    if len != f.size {
         return 2;
     }
     0
 }
 
 // The refusals of an event that need no look at the lines; 0 where none is given.
-fn checks(state: State, len: usize, code: u64) -> u8
+fn checks(f: Figure, state: State, len: usize, code: u64) -> u8
+    requires { ⌜ f ≡ figureOf (state .part) ⌝ }
     ensures { λ r. ⌜ r ≡ checks state len code ⌝ }
 {
-    let refusal = lend_refusal(state, len);
+    let refusal = lend_refusal(f, state, len);
     if refusal != 0 {
         return refusal;
     }
@@ -56,9 +58,10 @@ fn checks(state: State, len: usize, code: u64) -> u8
 }
 
 fn attempt(f: Figure, state: State, array: &[u8], code: u64) -> Stepped
+    requires { ⌜ f ≡ figureOf (state .part) ⌝ }
     ensures { λ r. ⌜ r ≡ tried f (now (array .entry)) state code ⌝ }
 {
-    let refusal = checks(state, array.len(), code);
+    let refusal = checks(f, state, array.len(), code);
     if refusal == 0 {
         step(f, state, array, code as u8)
     } else {

@@ -10,7 +10,7 @@ use Rattle.parts.specs.declared.commands.Command.{Command}
 use Rattle.parts.specs.declared.commands.Command.the-variants.{Wren, Wrdi, Rdsr, Wrsr, Read, Write, Other}
 use Rattle.history.specs.Wire.{Bit}
 
--- a whole byte: its value, and the level of /WP at its eighth bit
+-- a whole byte: its value, and the level of /WP at its first bit
 pub record Byte : Type 0 where
   pub value : ℕ
   pub wp : Bool
@@ -20,9 +20,10 @@ unfoldable pub bitsValue : List Bit → ℕ
 bitsValue [] = 0
 bitsValue (b ∷ bs) = cond (b .si) 1 0 * 2 ^ length bs + bitsValue bs
 
--- "/WP is read at the eighth rise of the data byte (H)." The bit that `getD` names for want of an eighth is never read.
+-- /WP "is read at the byte's first rise and remembered for that byte" (document 02, Wish 2). The bit that `getD` names for want
+-- of a first is never read.
 abbrev pub byte : List Bit → Byte
-byte bits = record { value = bitsValue bits; wp = getD bits 7 (record { si = false; wp = true }) .wp }
+byte bits = record { value = bitsValue bits; wp = getD bits 0 (record { si = false; wp = true }) .wp }
 
 -- so many bytes' bits
 unfoldable pub eights : ℕ → List Bit → List (List Bit)

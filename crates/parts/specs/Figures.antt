@@ -95,5 +95,8 @@ abbrev pub fitsPart : ℕ → ℕ → Bool
 fitsPart part len = eqb len (figureOf part .size)
 
 -- "3 | kept bits outside the mask"
+abbrev pub underMask : Figure → ℕ → Bool
+underMask f kept = eqb (bitAnd kept (f .kept)) kept
+
 abbrev pub inMask : ℕ → ℕ → Bool
-inMask part kept = eqb (bitAnd kept (figureOf part .kept)) kept
+inMask part kept = underMask (figureOf part) kept

@@ -2,7 +2,8 @@
 -- the part's size, a partial byte or bit count that no number of clocks gives, or power off in another form than the off
 -- state." Assumes nothing.
 use mathlib.Core.Bool.{Bool, not, _&&_, _||_}
-use Rattle.parts.specs.Figures.{figureOf, isPart, inMask}
+use Rattle.parts.specs.Figures.{figureOf, isPart, underMask}
+use Rattle.parts.specs.declared.figures.Figure.{Figure}
 use Rattle.stages.specs.Close.{isClosed}
 use Rattle.stages.specs.Sound.{soundStage}
 use Rattle.pins.specs.Levels.{holdHigh}
@@ -13,6 +14,9 @@ unfoldable pub rests : State → Bool
 rests s =
     not (s .sck) && not (s .si) && s .wp && not (s .latch) && holdHigh (s .hold) && isClosed (s .stage)
 
+-- by the figures of the state's part
+abbrev pub soundBy : Figure → State → Bool
+soundBy f s = isPart (s .part) && underMask f (s .kept) && soundStage f (s .stage) && (s .power || rests s)
+
 unfoldable pub sound : State → Bool
-sound s =
-    isPart (s .part) && inMask (s .part) (s .kept) && soundStage (figureOf (s .part)) (s .stage) && (s .power || rests s)
+sound s = soundBy (figureOf (s .part)) s

@@ -1,12 +1,13 @@
 -- With power on only the part, the kept bits and the stage are tested, so an edge that changes none of them keeps
 -- soundness as it is; the clocks keep it by the laws of a select. Assumes nothing.
 use Prim.Native.Nat.{ℕ}
-use mathlib.Core.Path.{_≡_, refl, _∙_}
+use mathlib.Core.Path.{_≡_, refl, ap, _∙_}
 use mathlib.Core.Bool.{Bool, true, false, not, _&&_, _||_}
 use mathlib.Core.List.{List}
 use borrow.Author.Tests.{eqb-true, eq-eqb}
 use Rattle.parts.specs.FigureLaws.{fair}
 use Rattle.parts.specs.Figures.{figureOf, isPart, inMask}
+use Rattle.parts.specs.declared.figures.Figure.{Figure}
 use Rattle.laws.specs.TestLaws.{both, left, right, choose}
 use Rattle.stages.specs.Close.{isClosed, drops}
 use Rattle.select.specs.Fall.{statusByte}
@@ -14,7 +15,7 @@ use Rattle.stages.specs.Sound.{soundStage}
 use Rattle.select.specs.SoundLaws.{rise-sound, rise-masked, fall-sound}
 use Rattle.pins.specs.Edges.{seenBy, csFall, csRise, sckRise, sckFall}
 use Rattle.pins.specs.Levels.{atRest, holdHigh}
-use Rattle.pins.specs.Sound.{rests, sound}
+use Rattle.pins.specs.Sound.{rests, soundBy, sound}
 use Rattle.stages.specs.declared.stage.Stage.{Stage}
 use Rattle.stages.specs.declared.stage.Stage.the-variants.{Closed, Code, Upper, Lower, Ready, ArrayOut, StatusOut, Writing, Keeping, Over}
 use Rattle.pins.specs.declared.hold.Hold.{Hold}
@@ -65,7 +66,7 @@ closed-is (Ready what at) h = cc
 closed-is (ArrayOut level bit at) h = cc
 closed-is (StatusOut level bit) h = cc
 closed-is (Writing came shift at) h = cc
-closed-is (Keeping shift) h = cc
+closed-is (Keeping wp shift) h = cc
 closed-is (Over end) h = cc
 
 high-is : (hold : Hold) → holdHigh hold ≡ true → hold ≡ High
@@ -142,3 +143,8 @@ module _ (s : State) (h : sound s ≡ true) (on : s .power ≡ true) where
       (staged _ refl refl refl
       (fall-sound (figureOf (s .part)) (fair (s .part) (g .part)) xs (statusByte (figureOf (s .part)) (s .kept) (s .latch)) (s .stage) (g .stage)))
       (kept-on _ refl refl refl refl)
+
+-- by the row of its part, whoever has read it
+pub sound-row : {f : Figure} (s : State) → f ≡ figureOf (s .part) → soundBy f s ≡ sound s
+unfolding sound
+sound-row s row = ap (λ (g : Figure). soundBy g s) row

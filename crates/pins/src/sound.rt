@@ -1,8 +1,9 @@
 // The soundness test. docs/SOUNDNESS.md states its conditions on the state's fields.
 ghost use mathlib.Core.Path.{_≡_};
-ghost use Rattle.pins.specs.Sound.{rests, sound};
+ghost use Rattle.pins.specs.Sound.{rests, soundBy, sound};
 use crate::hold::hold_high;
 use crate::state::State;
+use parts::figures::Figure;
 use parts::figures::figure_of;
 use parts::figures::is_part;
 use stages::close::is_closed;
@@ -17,12 +18,30 @@ fn rests(s: State) -> bool
     !s.sck & !s.si & s.wp & !s.latch & hold_high(hold) & is_closed(stage)
 }
 
-// Whether the state is sound. Power off has one form, the off state.
+// The test by figures that the caller has read. Power off has one form, the off state. One test after the other: with power
+// on, whether the lines rest is not asked (docs/SPEED.md).
+pub fn sound_by(f: Figure, s: State) -> bool
+    ensures { λ r. ⌜ r ≡ soundBy f s ⌝ }
+{
+    let stage = s.stage;
+    if !is_part(s.part as u64) {
+        return false;
+    }
+    if s.kept & f.kept != s.kept {
+        return false;
+    }
+    if !sound_stage(f, stage) {
+        return false;
+    }
+    if s.power {
+        return true;
+    }
+    rests(s)
+}
+
+// Whether the state is sound.
 pub fn sound(s: State) -> bool
     ensures { λ r. ⌜ r ≡ sound s ⌝ }
 {
-    let part = s.part as u64;
-    let stage = s.stage;
-    let f = figure_of(part);
-    is_part(part) & (s.kept & f.kept == s.kept) & sound_stage(f, stage) & (s.power | rests(s))
+    sound_by(figure_of(s.part as u64), s)
 }

@@ -44,7 +44,7 @@ fall f xs status (ArrayOut level bit at) =
     cond (eqb bit 0) (showArray xs (nextAddress f at) 7) (showArray xs at (bit - 1))
 fall f xs status (StatusOut level bit) = cond (eqb bit 0) (Over Quiet) (showStatus status (bit - 1))
 fall f xs status (Writing came shift at) = Writing came shift at
-fall f xs status (Keeping shift) = Keeping shift
+fall f xs status (Keeping wp shift) = Keeping wp shift
 fall f xs status (Over end) = Over end
 
 abbrev pub lineLevel : Line → Level
@@ -61,5 +61,5 @@ stageLevel (Ready what at) = Released
 stageLevel (ArrayOut level bit at) = lineLevel level
 stageLevel (StatusOut level bit) = lineLevel level
 stageLevel (Writing came shift at) = Released
-stageLevel (Keeping shift) = Released
+stageLevel (Keeping wp shift) = Released
 stageLevel (Over end) = Released

@@ -9,6 +9,7 @@ use Rattle.parts.specs.declared.commands.Command.{Command}
 use Rattle.parts.specs.declared.commands.Command.the-variants.{Wren, Wrdi, Rdsr, Wrsr, Read, Write, Other}
 use Rattle.parts.specs.declared.guards.Verdict as verdict
 use Rattle.stages.specs.Bits.{noBits, takeBit}
+use Rattle.stages.specs.Wp.{isUp, cameUp, byteWp, byteCame}
 use Rattle.stages.specs.Address.{afterCode, upperPage, afterAddress, nextAddress}
 use Rattle.select.specs.declared.notes.Note.{Note}
 use Rattle.select.specs.declared.notes.Note.the-variants.{Nothing, Latch, Stored, HeldBack, KeptSet, KeptHeldBack}
@@ -17,6 +18,8 @@ use Rattle.stages.specs.declared.bits.Taken.the-variants.{Part, Whole}
 use Rattle.stages.specs.declared.stage.Came.{Came}
 use Rattle.stages.specs.declared.stage.Came.the-variants.{Bytes}
 use Rattle.stages.specs.declared.stage.End.the-variants.{Quiet, Drops}
+use Rattle.stages.specs.declared.stage.Line.{Line}
+use Rattle.stages.specs.declared.stage.Line.the-variants.{Up}
 use Rattle.stages.specs.declared.stage.Purpose.{Purpose}
 use Rattle.stages.specs.declared.stage.Purpose.the-variants.{ToRead, ToWrite}
 use Rattle.stages.specs.declared.stage.What.the-variants.{Status}
@@ -38,7 +41,7 @@ abbrev pub byCommand : Figure → Seen → ℕ → Command → Risen
 byCommand f seen code Wren = latched seen true
 byCommand f seen code Wrdi = latched seen false
 byCommand f seen code Rdsr = quiet seen (Ready Status 0)
-byCommand f seen code Wrsr = quiet seen (Keeping noBits)
+byCommand f seen code Wrsr = quiet seen (Keeping Up noBits)
 byCommand f seen code Read = quiet seen (afterCode f ToRead code)
 byCommand f seen code Write = quiet seen (afterCode f ToWrite code)
 byCommand f seen code Other = quiet seen (Over Quiet)
@@ -76,7 +79,7 @@ storeNote at byte verdict.the-variants.Allowed = Stored at byte
 storeNote at byte (verdict.the-variants.HeldBack reason) = HeldBack at reason
 
 -- "WRITE stores each data byte at the eighth rise of that byte, then steps the address, rolling over.
---  A byte held back steps the address too (H)." "/WP is read at the eighth rise of the data byte (H)."
+--  A byte held back steps the address too (H)." /WP is the byte's own: `byteCame`.
 abbrev pub writeTaken : Figure → Seen → Came → ℕ → Taken → Risen
 writeTaken f seen came at (Part more) = quiet seen (Writing came more at)
 writeTaken f seen came at (Whole byte) =
@@ -84,11 +87,11 @@ writeTaken f seen came at (Whole byte) =
       stage = Writing Bytes noBits (nextAddress f at);
       latch = seen .latch;
       kept = seen .kept;
-      note = storeNote at byte (mayStore f (seen .latch) (seen .kept) (seen .wp) at);
+      note = storeNote at byte (mayStore f (seen .latch) (seen .kept) (cameUp came) at);
     }
 
 unfoldable pub writeRise : Figure → Seen → Came → ℕ → ℕ → Risen
-writeRise f seen came shift at = writeTaken f seen came at (takeBit shift (seen .si))
+writeRise f seen came shift at = writeTaken f seen (byteCame came shift (seen .wp)) at (takeBit shift (seen .si))
 
 -- "keeps the byte under the part's mask. Further bytes do nothing (H)."
 abbrev pub keptBy : Figure → Seen → ℕ → verdict.Verdict → Risen
@@ -97,13 +100,13 @@ keptBy f seen byte verdict.the-variants.Allowed =
 keptBy f seen byte (verdict.the-variants.HeldBack reason) =
     record { stage = Over Drops; latch = seen .latch; kept = seen .kept; note = KeptHeldBack reason }
 
--- "WRSR takes the first data byte at its eighth rise". "/WP is read at the eighth rise of the data byte (H)."
-abbrev pub keepTaken : Figure → Seen → Taken → Risen
-keepTaken f seen (Part more) = quiet seen (Keeping more)
-keepTaken f seen (Whole byte) = keptBy f seen byte (mayKeep f (seen .latch) (seen .kept) (seen .wp))
+-- "WRSR takes the first data byte at its eighth rise". /WP is the byte's own: `byteWp`.
+abbrev pub keepTaken : Figure → Seen → Line → Taken → Risen
+keepTaken f seen wp (Part more) = quiet seen (Keeping wp more)
+keepTaken f seen wp (Whole byte) = keptBy f seen byte (mayKeep f (seen .latch) (seen .kept) (isUp wp))
 
-unfoldable pub keepRise : Figure → Seen → ℕ → Risen
-keepRise f seen shift = keepTaken f seen (takeBit shift (seen .si))
+unfoldable pub keepRise : Figure → Seen → Line → ℕ → Risen
+keepRise f seen wp shift = keepTaken f seen (byteWp wp shift (seen .wp)) (takeBit shift (seen .si))
 
 -- a seen rise of SCK, by what stands; "later bits that no rule names do nothing"
 unfoldable pub rise : Figure → Seen → Stage → Risen
@@ -115,5 +118,5 @@ rise f seen (Ready what at) = quiet seen (Ready what at)
 rise f seen (ArrayOut level bit at) = quiet seen (ArrayOut level bit at)
 rise f seen (StatusOut level bit) = quiet seen (StatusOut level bit)
 rise f seen (Writing came shift at) = writeRise f seen came shift at
-rise f seen (Keeping shift) = keepRise f seen shift
+rise f seen (Keeping wp shift) = keepRise f seen wp shift
 rise f seen (Over end) = quiet seen (Over end)

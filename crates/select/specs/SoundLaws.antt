@@ -1,7 +1,7 @@
 -- A seen rise and a seen fall of SCK keep a stage sound, over any part's figures. Assumes nothing.
 use Prim.Native.Nat.{ℕ, _-_, _*_}
 use mathlib.Core.Path.{_≡_, refl}
-use mathlib.Core.Bool.{Bool, true, false, cond}
+use mathlib.Core.Bool.{Bool, true, false, cond, _&&_}
 use mathlib.Core.List.{List}
 use native.Mathlib.Omega.{arith}
 use borrow.Author.Tests.{lt-ltb, ltb-true}
@@ -18,13 +18,15 @@ use Rattle.parts.specs.Guards.{mayKeep}
 use Rattle.parts.specs.declared.guards.Verdict as verdict
 use Rattle.stages.specs.Address.{upperPage, nextAddress}
 use Rattle.stages.specs.Bits.{takeBit}
+use Rattle.stages.specs.Wp.{isUp, cameUp, byteWp, byteCame}
 use Rattle.select.specs.Fall.{showArray, showStatus, fall}
 use Rattle.select.specs.Rise.{byCommand, opened, codeTaken, codeRise, upperTaken, upperRise, lowerTaken, lowerRise}
 use Rattle.select.specs.Rise.{writeTaken, writeRise, keptBy, keepTaken, keepRise, rise}
-use Rattle.stages.specs.SoundLaws.{within, SoundTaken, take-sound, next-sound, after-code, after-address}
-use Rattle.stages.specs.Sound.{soundStage}
+use Rattle.stages.specs.SoundLaws.{within, SoundTaken, take-sound, next-sound, after-code, after-address, DataTaken, data-sound}
+use Rattle.stages.specs.Sound.{soundShift, soundStage}
 use Rattle.stages.specs.declared.stage.Came.{Came}
 use Rattle.stages.specs.declared.stage.End.the-variants.{Quiet}
+use Rattle.stages.specs.declared.stage.Line.{Line}
 use Rattle.stages.specs.declared.stage.Purpose.{Purpose}
 use Rattle.stages.specs.declared.stage.Purpose.the-variants.{ToRead, ToWrite}
 use Rattle.stages.specs.declared.stage.What.the-variants.{Array, Status}
@@ -67,10 +69,10 @@ module _ (f : Figure) (fair : Fair f) where
   write-masked seen came at (Part more) = refl
   write-masked seen came at (Whole byte) = refl
 
-  keep-masked : (seen : Seen) (t : Taken) → bitAnd (seen .kept) (f .kept) ≡ seen .kept
-      → bitAnd (keepTaken f seen t .kept) (f .kept) ≡ keepTaken f seen t .kept
-  keep-masked seen (Part more) h = h
-  keep-masked seen (Whole byte) h = kept-masked seen byte (mayKeep f (seen .latch) (seen .kept) (seen .wp)) h
+  keep-masked : (seen : Seen) (wp : Line) (t : Taken) → bitAnd (seen .kept) (f .kept) ≡ seen .kept
+      → bitAnd (keepTaken f seen wp t .kept) (f .kept) ≡ keepTaken f seen wp t .kept
+  keep-masked seen wp (Part more) h = h
+  keep-masked seen wp (Whole byte) h = kept-masked seen byte (mayKeep f (seen .latch) (seen .kept) (isUp wp)) h
 
   pub rise-masked : (seen : Seen) (stage : Stage) → bitAnd (seen .kept) (f .kept) ≡ seen .kept
       → bitAnd (rise f seen stage .kept) (f .kept) ≡ rise f seen stage .kept
@@ -82,8 +84,8 @@ module _ (f : Figure) (fair : Fair f) where
   rise-masked seen (Ready what at) h = h
   rise-masked seen (ArrayOut level bit at) h = h
   rise-masked seen (StatusOut level bit) h = h
-  rise-masked seen (Writing came shift at) h = rw (write-masked seen came at (takeBit shift (seen .si))) h
-  rise-masked seen (Keeping shift) h = keep-masked seen (takeBit shift (seen .si)) h
+  rise-masked seen (Writing came shift at) h = rw (write-masked seen (byteCame came shift (seen .wp)) at (takeBit shift (seen .si))) h
+  rise-masked seen (Keeping wp shift) h = keep-masked seen (byteWp wp shift (seen .wp)) (takeBit shift (seen .si)) h
   rise-masked seen (Over end) h = h
 
   begun-sound : (seen : Seen) (code : ℕ) (c : Command) → soundStage f (byCommand f seen code c .stage) ≡ true
@@ -113,10 +115,10 @@ module _ (f : Figure) (fair : Fair f) where
   lower-sound seen purpose page (Part more) p h = both p h
   lower-sound seen purpose page (Whole byte) p h = after-address f fair purpose page (ltb-true (page * 256) (f .size) p) h
 
-  write-sound : (seen : Seen) (came : Came) (at : ℕ) (t : Taken) → ltb at (f .size) ≡ true → SoundTaken t
+  write-sound : (seen : Seen) (came : Came) (at : ℕ) (t : Taken) → ltb at (f .size) ≡ true → DataTaken (cameUp came) t
       → soundStage f (writeTaken f seen came at t .stage) ≡ true
   unfolding soundStage
-  write-sound seen came at (Part more) p h = both p h
+  write-sound seen came at (Part more) p h = both (both p (h .0)) (h .1)
   write-sound seen came at (Whole byte) p h = rw (lt-ltb _ _ (next-sound f fair at))
 
   kept-sound : (seen : Seen) (byte : ℕ) (v : verdict.Verdict) → soundStage f (keptBy f seen byte v .stage) ≡ true
@@ -124,10 +126,10 @@ module _ (f : Figure) (fair : Fair f) where
   kept-sound seen byte verdict.the-variants.Allowed = refl
   kept-sound seen byte (verdict.the-variants.HeldBack reason) = refl
 
-  keep-sound : (seen : Seen) (t : Taken) → SoundTaken t → soundStage f (keepTaken f seen t .stage) ≡ true
+  keep-sound : (seen : Seen) (wp : Line) (t : Taken) → DataTaken (isUp wp) t → soundStage f (keepTaken f seen wp t .stage) ≡ true
   unfolding soundStage
-  keep-sound seen (Part more) h = h
-  keep-sound seen (Whole byte) h = kept-sound seen byte (mayKeep f (seen .latch) (seen .kept) (seen .wp))
+  keep-sound seen wp (Part more) h = both (h .0) (h .1)
+  keep-sound seen wp (Whole byte) h = kept-sound seen byte (mayKeep f (seen .latch) (seen .kept) (isUp wp))
 
   pub rise-sound : (seen : Seen) (stage : Stage) → soundStage f stage ≡ true → soundStage f (rise f seen stage .stage) ≡ true
   unfolding soundStage rise codeRise upperRise lowerRise writeRise keepRise
@@ -141,8 +143,13 @@ module _ (f : Figure) (fair : Fair f) where
   rise-sound seen (ArrayOut level bit at) h = h
   rise-sound seen (StatusOut level bit) h = h
   rise-sound seen (Writing came shift at) h =
-      write-sound seen came at (takeBit shift (seen .si)) (left _ _ h) (take-sound shift (seen .si) (right (ltb at (f .size)) _ h))
-  rise-sound seen (Keeping shift) h = keep-sound seen (takeBit shift (seen .si)) (take-sound shift (seen .si) h)
+      let own = byteCame came shift (seen .wp) in
+      let sure = left (ltb at (f .size) && soundShift shift) _ h in
+      write-sound seen own at (takeBit shift (seen .si)) (left _ _ sure)
+      (data-sound (cameUp own) shift (seen .si) (right (ltb at (f .size)) _ sure))
+  rise-sound seen (Keeping wp shift) h =
+      let own = byteWp wp shift (seen .wp) in
+      keep-sound seen own (takeBit shift (seen .si)) (data-sound (isUp own) shift (seen .si) (left (soundShift shift) _ h))
   rise-sound seen (Over end) h = refl
 
   -- one bit less
@@ -168,5 +175,5 @@ module _ (f : Figure) (fair : Fair f) where
       go true = refl
       go false = lower-bit bit h
   fall-sound xs status (Writing came shift at) h = h
-  fall-sound xs status (Keeping shift) h = h
+  fall-sound xs status (Keeping wp shift) h = h
   fall-sound xs status (Over end) h = h

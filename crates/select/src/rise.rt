@@ -17,9 +17,14 @@ use stages::bits::Taken;
 use stages::bits::take_bit;
 use stages::stage::Came;
 use stages::stage::End;
+use stages::stage::Line;
 use stages::stage::Purpose;
 use stages::stage::Stage;
 use stages::stage::What;
+use stages::wp::byte_came;
+use stages::wp::byte_wp;
+use stages::wp::came_up;
+use stages::wp::is_up;
 
 // What a rise reads besides the stage.
 pub struct Seen {
@@ -75,7 +80,13 @@ fn open(f: Figure, seen: Seen, code: u8) -> Risen
                 at: 0,
             },
         ),
-        Command::Wrsr => to_stage(seen, Stage::Keeping { shift: NO_BITS }),
+        Command::Wrsr => to_stage(
+            seen,
+            Stage::Keeping {
+                wp: Line::Up,
+                shift: NO_BITS,
+            },
+        ),
         Command::Read => to_stage(seen, header(f, Purpose::ToRead, code)),
         Command::Write => to_stage(seen, header(f, Purpose::ToWrite, code)),
         Command::Other => to_stage(seen, Stage::Over { end: End::Quiet }),
@@ -146,11 +157,12 @@ fn store_note(at: usize, byte: u8, verdict: Verdict) -> Note
 fn write_rise(f: Figure, seen: Seen, came: Came, shift: u16, at: usize) -> Risen
     ensures { λ r. ⌜ r ≡ writeRise f seen came shift at ⌝ }
 {
+    let came = byte_came(came, shift, seen.wp);
     let taken = take_bit(shift, seen.si);
     match taken {
         Taken::Part(shift) => to_stage(seen, Stage::Writing { came, shift, at }),
         Taken::Whole(byte) => {
-            let verdict = may_store(f, seen.latch, seen.kept, seen.wp, at);
+            let verdict = may_store(f, seen.latch, seen.kept, came_up(came), at);
             let note = store_note(at, byte, verdict);
             let next = next_address(f, at);
             Risen {
@@ -168,14 +180,15 @@ fn write_rise(f: Figure, seen: Seen, came: Came, shift: u16, at: usize) -> Risen
 }
 
 // The first data byte of a WRSR: kept under the mask or held back at its eighth rise.
-fn keep_rise(f: Figure, seen: Seen, shift: u16) -> Risen
-    ensures { λ r. ⌜ r ≡ keepRise f seen shift ⌝ }
+fn keep_rise(f: Figure, seen: Seen, wp: Line, shift: u16) -> Risen
+    ensures { λ r. ⌜ r ≡ keepRise f seen wp shift ⌝ }
 {
+    let wp = byte_wp(wp, shift, seen.wp);
     let taken = take_bit(shift, seen.si);
     match taken {
-        Taken::Part(shift) => to_stage(seen, Stage::Keeping { shift }),
+        Taken::Part(shift) => to_stage(seen, Stage::Keeping { wp, shift }),
         Taken::Whole(byte) => {
-            let verdict = may_keep(f, seen.latch, seen.kept, seen.wp);
+            let verdict = may_keep(f, seen.latch, seen.kept, is_up(wp));
             let stage = Stage::Over { end: End::Drops };
             match verdict {
                 Verdict::Allowed => {
@@ -216,7 +229,7 @@ pub fn rise(f: Figure, seen: Seen, stage: Stage) -> Risen
         Stage::ArrayOut { .. } => to_stage(seen, stage),
         Stage::StatusOut { .. } => to_stage(seen, stage),
         Stage::Writing { came, shift, at } => write_rise(f, seen, came, shift, at),
-        Stage::Keeping { shift } => keep_rise(f, seen, shift),
+        Stage::Keeping { wp, shift } => keep_rise(f, seen, wp, shift),
         Stage::Over { .. } => to_stage(seen, stage),
     }
 }

@@ -1,6 +1,6 @@
 -- The close of a select. Assumes nothing.
 use mathlib.Core.Bool.{Bool, true, false}
-use Rattle.stages.specs.declared.stage.Came.the-variants.{NoByte, Bytes}
+use Rattle.stages.specs.declared.stage.Came.the-variants.{NoByte, NoByteLow, Bytes, BytesLow}
 use Rattle.stages.specs.declared.stage.End.the-variants.{Quiet, Drops}
 use Rattle.stages.specs.declared.stage.Stage.{Stage}
 use Rattle.stages.specs.declared.stage.Stage.the-variants.{Closed, Code, Upper, Lower, Ready, ArrayOut, StatusOut, Writing, Keeping, Over}
@@ -15,7 +15,7 @@ isClosed (Ready what at) = false
 isClosed (ArrayOut level bit at) = false
 isClosed (StatusOut level bit) = false
 isClosed (Writing came shift at) = false
-isClosed (Keeping shift) = false
+isClosed (Keeping wp shift) = false
 isClosed (Over end) = false
 
 -- "The latch drops at the rise of /CS that ends a WRITE or WRSR with at least one whole data byte, held back or
@@ -29,7 +29,9 @@ drops (Ready what at) = false
 drops (ArrayOut level bit at) = false
 drops (StatusOut level bit) = false
 drops (Writing NoByte shift at) = false
+drops (Writing NoByteLow shift at) = false
 drops (Writing Bytes shift at) = true
-drops (Keeping shift) = false
+drops (Writing BytesLow shift at) = true
+drops (Keeping wp shift) = false
 drops (Over Quiet) = false
 drops (Over Drops) = true

@@ -3,3 +3,4 @@ pub mod Address
 pub mod Close
 pub mod Sound
 pub mod SoundLaws
+pub mod Wp

@@ -1,9 +1,11 @@
 -- The part of the soundness test that looks at the stage: it fails "an address not below the part's size, a partial
 -- byte or bit count that no number of clocks gives". Assumes nothing.
 use Prim.Native.Nat.{ℕ, _*_}
-use mathlib.Core.Bool.{Bool, true, _&&_}
+use mathlib.Core.Bool.{Bool, true, _&&_, _||_}
 use lib.Dec.{eqb, ltb}
 use Rattle.parts.specs.declared.figures.Figure.{Figure}
+use Rattle.stages.specs.Bits.{noBits}
+use Rattle.stages.specs.Wp.{isUp, cameUp}
 use Rattle.stages.specs.declared.stage.What.{What}
 use Rattle.stages.specs.declared.stage.What.the-variants.{Array, Status}
 use Rattle.stages.specs.declared.stage.Stage.{Stage}
@@ -12,6 +14,10 @@ use Rattle.stages.specs.declared.stage.Stage.the-variants.{Closed, Code,
 -- under eight bits after the 1: eight would be a whole byte
 abbrev pub soundShift : ℕ → Bool
 soundShift shift = ltb 0 shift && ltb shift 256
+
+-- a data byte's level of /WP has one form where no bit of it came: up
+abbrev pub soundWp : Bool → ℕ → Bool
+soundWp up shift = ltb noBits shift || up
 
 -- how many bytes there are to show
 abbrev pub shownLength : Figure → What → ℕ
@@ -27,6 +33,6 @@ soundStage f (Lower purpose shift page) = ltb (page * 256) (f .size) && soundShi
 soundStage f (Ready what at) = ltb at (shownLength f what)
 soundStage f (ArrayOut level bit at) = ltb at (f .size) && ltb bit 8
 soundStage f (StatusOut level bit) = ltb bit 8
-soundStage f (Writing came shift at) = ltb at (f .size) && soundShift shift
-soundStage f (Keeping shift) = soundShift shift
+soundStage f (Writing came shift at) = ltb at (f .size) && soundShift shift && soundWp (cameUp came) shift
+soundStage f (Keeping wp shift) = soundShift shift && soundWp (isUp wp) shift
 soundStage f (Over end) = true

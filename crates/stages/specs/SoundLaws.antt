@@ -12,7 +12,7 @@ use Rattle.laws.specs.TestLaws.{both, left, right}
 use Rattle.parts.specs.declared.figures.Figure.{Figure}
 use Rattle.stages.specs.Address.{codePage, afterCode, afterAddress, nextAddress}
 use Rattle.stages.specs.Bits.{noBits, lowBit, shifted, takeBit}
-use Rattle.stages.specs.Sound.{soundShift, soundStage}
+use Rattle.stages.specs.Sound.{soundShift, soundWp, soundStage}
 use Rattle.stages.specs.declared.stage.Purpose.{Purpose}
 use Rattle.stages.specs.declared.stage.Purpose.the-variants.{ToRead, ToWrite}
 use Rattle.stages.specs.declared.stage.Stage.the-variants.{Upper, Lower}
@@ -49,6 +49,27 @@ take-sound shift si h = go (ltb (shifted shift si) 256) refl
 
     go : (t : Bool) → ltb (shifted shift si) 256 ≡ t → SoundTaken (cond t (Part (shifted shift si)) (Whole (shifted shift si % 256)))
     go true e = both (lt-ltb 0 (shifted shift si) some) e
+    go false e = mod-lt (shifted shift si) (lit< tt)
+
+-- of a data byte, whatever its level of /WP: a bit of it came
+abbrev pub DataTaken : Bool → Taken → Type 0
+DataTaken up (Part more) = (soundShift more ≡ true) × (soundWp up more ≡ true)
+DataTaken up (Whole byte) = byte < 2 ^ 8
+
+doubled : (shift low : ℕ) → 0 < shift → 1 < shift * 2 + low
+doubled shift low h = omega arith
+
+pub data-sound : (up : Bool) (shift : ℕ) (si : Bool) → soundShift shift ≡ true → DataTaken up (takeBit shift si)
+unfolding takeBit
+data-sound up shift si h = go (ltb (shifted shift si) 256) refl
+  where
+    begun : 1 < shifted shift si
+    begun =
+        rw (shifted-is shift si (ltb-true shift 256 (right (ltb 0 shift) (ltb shift 256) h)))
+        (doubled shift (lowBit si) (ltb-true 0 shift (left (ltb 0 shift) (ltb shift 256) h)))
+
+    go : (t : Bool) → ltb (shifted shift si) 256 ≡ t → DataTaken up (cond t (Part (shifted shift si)) (Whole (shifted shift si % 256)))
+    go true e = (both (lt-ltb 0 (shifted shift si) (omega (arith, begun))) e, rw (lt-ltb 1 (shifted shift si) begun))
     go false e = mod-lt (shifted shift si) (lit< tt)
 
 module _ (f : Figure) (fair : Fair f) where

@@ -28,21 +28,16 @@ pub fn drops(stage: Stage) -> bool
     ensures { λ r. ⌜ r ≡ drops stage ⌝ }
 {
     match stage {
-        Stage::Closed => false,
-        Stage::Code { .. } => false,
-        Stage::Upper { .. } => false,
-        Stage::Lower { .. } => false,
-        Stage::Ready { .. } => false,
-        Stage::ArrayOut { .. } => false,
-        Stage::StatusOut { .. } => false,
         Stage::Writing { came, .. } => match came {
             Came::NoByte => false,
+            Came::NoByteLow => false,
             Came::Bytes => true,
+            Came::BytesLow => true,
         },
-        Stage::Keeping { .. } => false,
         Stage::Over { end } => match end {
             End::Quiet => false,
             End::Drops => true,
         },
+        _ => false,
     }
 }

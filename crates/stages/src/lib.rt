@@ -4,3 +4,4 @@ pub mod bits;
 pub mod close;
 pub mod sound;
 pub mod stage;
+pub mod wp;

@@ -1,8 +1,11 @@
 // The part of the soundness test that looks at the stage.
 ghost use mathlib.Core.Path.{_≡_};
 ghost use Rattle.stages.specs.Sound.{soundShift, shownLength, soundStage};
+use crate::bits::NO_BITS;
 use crate::stage::Stage;
 use crate::stage::What;
+use crate::wp::came_up;
+use crate::wp::is_up;
 use parts::figures::Figure;
 
 // Under eight bits after the 1.
@@ -22,7 +25,7 @@ fn shown_length(f: Figure, what: What) -> usize
     }
 }
 
-// Whether the stage is sound on this part.
+// Whether the stage is sound on this part. A data byte's level of /WP is up where no bit of it came.
 pub fn sound_stage(f: Figure, stage: Stage) -> bool
     ensures { λ r. ⌜ r ≡ soundStage f stage ⌝ }
 {
@@ -34,8 +37,10 @@ pub fn sound_stage(f: Figure, stage: Stage) -> bool
         Stage::Ready { what, at } => at < shown_length(f, what),
         Stage::ArrayOut { bit, at, .. } => (at < f.size) & (bit < 8),
         Stage::StatusOut { bit, .. } => bit < 8,
-        Stage::Writing { shift, at, .. } => (at < f.size) & sound_shift(shift),
-        Stage::Keeping { shift } => sound_shift(shift),
+        Stage::Writing { came, shift, at } => (at < f.size)
+            & sound_shift(shift)
+            & ((NO_BITS < shift) | came_up(came)),
+        Stage::Keeping { wp, shift } => sound_shift(shift) & ((NO_BITS < shift) | is_up(wp)),
         Stage::Over { .. } => true,
     }
 }

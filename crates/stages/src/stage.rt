@@ -21,10 +21,13 @@ pub enum What {
     Status,
 }
 
-// What of a WRITE's data came: nothing whole yet, or at least one whole byte.
+// What of a WRITE's data came: nothing whole yet, or at least one whole byte; and, in one byte with it, whether /WP was low at
+// the first rise of the byte under way.
 pub enum Came {
     NoByte,
+    NoByteLow,
     Bytes,
+    BytesLow,
 }
 
 // What the close of a select does besides: nothing, or the latch drops.
@@ -66,13 +69,15 @@ pub enum Stage {
         level: Line,
         bit: u16,
     },
+    // A WRITE's data, and WRSR's first data byte. Each remembers /WP as it stood at the byte's first rise, up where no bit of
+    // one came.
     Writing {
         came: Came,
         shift: u16,
         at: usize,
     },
-    // WRSR's first data byte.
     Keeping {
+        wp: Line,
         shift: u16,
     },
     // Nothing more happens in this select.

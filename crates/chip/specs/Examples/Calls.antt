@@ -7,8 +7,8 @@ use lib.Dec.{eqb}
 use lib.ListN.{replicate}
 use Rattle.stages.specs.declared.stage.Stage.{Stage}
 use Rattle.stages.specs.declared.stage.Stage.the-variants.{Code, Upper, Lower, Ready, ArrayOut, StatusOut, Writing, Keeping}
-use Rattle.stages.specs.declared.stage.Came.the-variants.{NoByte, Bytes}
-use Rattle.stages.specs.declared.stage.Line.the-variants.{Down}
+use Rattle.stages.specs.declared.stage.Came.the-variants.{NoByte, NoByteLow, Bytes}
+use Rattle.stages.specs.declared.stage.Line.the-variants.{Down, Up}
 use Rattle.stages.specs.declared.stage.Purpose.the-variants.{ToRead, ToWrite}
 use Rattle.stages.specs.declared.stage.What.the-variants.{Array, Status}
 use Rattle.stages.specs.Bits.{noBits}
@@ -76,9 +76,12 @@ refusedEvents =
     ∷ refuses (in1 (ArrayOut Down 0 512)) 512 11 4 ∷ refuses (in1 (Ready Status 1)) 512 11 4
     ∷ refuses (in1 (Lower ToWrite noBits 2)) 512 11 4 ∷ refuses (in1 (Lower ToWrite noBits 1)) 512 11 0
     ∷ refuses (in3 (Lower ToRead noBits 8)) 2048 11 4 ∷ refuses (in3 (Lower ToRead noBits 7)) 2048 11 0
+    -- the level of /WP that a data byte began with: up before its first bit, free from then on
+    ∷ refuses (in1 (Writing NoByteLow noBits 0)) 512 11 4 ∷ refuses (in1 (Writing NoByteLow 2 0)) 512 11 0
+    ∷ refuses (in3 (Keeping Down noBits)) 2048 11 4 ∷ refuses (in3 (Keeping Down 3)) 2048 11 0
     -- "a partial byte or bit count that no number of clocks gives"
     ∷ refuses (in1 (Code 0)) 512 11 4 ∷ refuses (in1 (Code 255)) 512 11 0 ∷ refuses (in1 (Code 256)) 512 11 4
-    ∷ refuses (in1 (Keeping 0)) 512 11 4 ∷ refuses (in1 (Keeping 256)) 512 11 4 ∷ refuses (in1 (Writing NoByte 256 0)) 512 11 4
+    ∷ refuses (in1 (Keeping Up 0)) 512 11 4 ∷ refuses (in1 (Keeping Up 256)) 512 11 4 ∷ refuses (in1 (Writing NoByte 256 0)) 512 11 4
     ∷ refuses (in1 (Lower ToRead 256 0)) 512 11 4 ∷ refuses (in3 (Upper ToRead 256)) 2048 11 4 ∷ refuses (in3 (Upper ToRead 255)) 2048 11 0
     ∷ refuses (in1 (Upper ToWrite noBits)) 512 11 4 ∷ refuses (in1 (ArrayOut Down 8 0)) 512 11 4 ∷ refuses (in1 (StatusOut Down 8)) 512 11 4
     ∷ []

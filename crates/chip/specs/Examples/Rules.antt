@@ -223,28 +223,69 @@ ofGuards =
     ∷ low (writes 3 0x8C (transfer (0x01 ∷ 0x00 ∷ [])) (KeptHeldBack LatchOff ∷ []) (idle 3 0x8C false false))
     ∷ low (two 1 0x0C (0x0A ∷ 0xFF ∷ []) (HeldBack 0x1FF Protect) (HeldBack 0x000 Protect))
     ∷ low (two 3 0x8C (0x02 ∷ 0x07 ∷ 0xFF ∷ []) (HeldBack 0x7FF Block) (HeldBack 0x000 Block))
-    -- "/WP is read at the eighth rise of the data byte": low for the first seven, low from before the eighth, low after it
+    -- "it is read at the byte's first rise and remembered for that byte, a rise of /WP in mid-byte included" (document 02,
+    -- Wish 2): low from the second bit on, low from the eighth on, low for the first alone
     ∷ writes 1 0
-    (wren ++ begins (0x02 ∷ 0x00 ∷ []) ++ 8 ∷ clocks 7 0x54 ++ 9 ∷ 4 ∷ 3 ∷ 2 ∷ 1 ∷ [])
+    (wren ++ begins (0x02 ∷ 0x00 ∷ []) ++ clocks 1 0x54 ++ 8 ∷ clocks 7 0xA8 ++ 1 ∷ [])
     (Latch true ∷ Stored 0x000 0x54 ∷ Latch false ∷ [])
-    (idle 1 0 false false)
+    (wpLow (idle 1 0 false false))
     ∷ writes 1 0
     (wren ++ begins (0x02 ∷ 0x00 ∷ []) ++ clocks 7 0x54 ++ 8 ∷ 4 ∷ 3 ∷ 2 ∷ 1 ∷ [])
-    (Latch true ∷ HeldBack 0x000 Protect ∷ Latch false ∷ [])
-    (wpLow (idle 1 0 false false))
-    ∷ writes 1 0
-    (wren ++ begins (0x02 ∷ 0x00 ∷ []) ++ clocks 7 0x54 ++ 4 ∷ 3 ∷ 8 ∷ 2 ∷ 1 ∷ [])
     (Latch true ∷ Stored 0x000 0x54 ∷ Latch false ∷ [])
     (wpLow (idle 1 0 false false))
-    -- each byte by its own level; the status byte too
     ∷ writes 1 0
-    (wren ++ begins (0x02 ∷ 0x00 ∷ 0x11 ∷ []) ++ 8 ∷ clocked 0x22 ++ 1 ∷ [])
+    (wren ++ begins (0x02 ∷ 0x00 ∷ []) ++ 8 ∷ clocks 1 0x54 ++ 9 ∷ clocks 7 0xA8 ++ 1 ∷ [])
+    (Latch true ∷ HeldBack 0x000 Protect ∷ Latch false ∷ [])
+    (idle 1 0 false false)
+    -- at the rise itself: low from after SI to before the fall, and high there
+    ∷ writes 1 0
+    (wren ++ begins (0x02 ∷ 0x00 ∷ []) ++ 4 ∷ 8 ∷ 3 ∷ 9 ∷ 2 ∷ clocks 7 0xA8 ++ 1 ∷ [])
+    (Latch true ∷ HeldBack 0x000 Protect ∷ Latch false ∷ [])
+    (idle 1 0 false false)
+    ∷ writes 1 0
+    (wren ++ begins (0x02 ∷ 0x00 ∷ []) ++ 8 ∷ 4 ∷ 9 ∷ 3 ∷ 8 ∷ 2 ∷ clocks 7 0xA8 ++ 1 ∷ [])
+    (Latch true ∷ Stored 0x000 0x54 ∷ Latch false ∷ [])
+    (wpLow (idle 1 0 false false))
+    -- the next byte of the same transfer reads its own level
+    ∷ writes 1 0
+    (wren ++ begins (0x02 ∷ 0x00 ∷ []) ++ clocks 1 0x11 ++ 8 ∷ clocks 7 0x22 ++ clocked 0x22 ++ 1 ∷ [])
     (Latch true ∷ Stored 0x000 0x11 ∷ HeldBack 0x001 Protect ∷ Latch false ∷ [])
     (wpLow (idle 1 0 false false))
     ∷ writes 1 0
-    (wren ++ begins (0x01 ∷ []) ++ clocks 7 0x0C ++ 8 ∷ 4 ∷ 3 ∷ 2 ∷ 1 ∷ [])
+    (wren ++ begins (0x02 ∷ 0x00 ∷ []) ++ 8 ∷ clocks 1 0x11 ++ 9 ∷ clocks 7 0x22 ++ clocked 0x22 ++ 1 ∷ [])
+    (Latch true ∷ HeldBack 0x000 Protect ∷ Stored 0x001 0x22 ∷ Latch false ∷ [])
+    (idle 1 0 false false)
+    -- the status byte too, on part 1 and with WPEN set on part 3
+    ∷ writes 1 0
+    (wren ++ begins (0x01 ∷ []) ++ clocks 1 0x0C ++ 8 ∷ clocks 7 0x18 ++ 1 ∷ [])
+    (Latch true ∷ KeptSet 0x0C ∷ Latch false ∷ [])
+    (wpLow (idle 1 0x0C false false))
+    ∷ writes 1 0
+    (wren ++ begins (0x01 ∷ []) ++ 8 ∷ clocks 1 0x0C ++ 9 ∷ clocks 7 0x18 ++ 1 ∷ [])
     (Latch true ∷ KeptHeldBack Protect ∷ Latch false ∷ [])
+    (idle 1 0 false false)
+    ∷ writes 3 0x80
+    (wren ++ begins (0x01 ∷ []) ++ clocks 1 0x0C ++ 8 ∷ clocks 7 0x18 ++ 1 ∷ [])
+    (Latch true ∷ KeptSet 0x0C ∷ Latch false ∷ [])
+    (wpLow (idle 3 0x0C false false))
+    ∷ writes 3 0x80
+    (wren ++ begins (0x01 ∷ []) ++ 8 ∷ clocks 1 0x0C ++ 9 ∷ clocks 7 0x18 ++ 1 ∷ [])
+    (Latch true ∷ KeptHeldBack Protect ∷ Latch false ∷ [])
+    (idle 3 0x80 false false)
+    -- a byte that was not whole leaves nothing of its level to the next transfer
+    ∷ writes 1 0
+    (wren ++ begins (0x02 ∷ 0x00 ∷ []) ++ 8 ∷ clocks 3 0x54 ++ 1 ∷ 9 ∷ transfer (0x02 ∷ 0x00 ∷ 0x54 ∷ []))
+    (Latch true ∷ Stored 0x000 0x54 ∷ Latch false ∷ [])
+    (idle 1 0 false false)
+    -- moved in hold: in mid-byte it comes too late; around a clock that is not seen it comes to nothing
+    ∷ writes 1 0
+    (wren ++ begins (0x02 ∷ 0x00 ∷ []) ++ clocks 1 0x54 ++ 6 ∷ 8 ∷ 7 ∷ clocks 7 0xA8 ++ 1 ∷ [])
+    (Latch true ∷ Stored 0x000 0x54 ∷ Latch false ∷ [])
     (wpLow (idle 1 0 false false))
+    ∷ writes 1 0
+    (wren ++ begins (0x02 ∷ 0x00 ∷ []) ++ 6 ∷ 8 ∷ 3 ∷ 2 ∷ 9 ∷ 7 ∷ clocked 0x54 ++ 1 ∷ [])
+    (Latch true ∷ Stored 0x000 0x54 ∷ Latch false ∷ [])
+    (idle 1 0 false false)
     -- "Its level is followed at all times with power on, during hold too."
     ∷ writes 1 0
     (wren ++ begins (0x02 ∷ 0x00 ∷ []) ++ 6 ∷ 8 ∷ 7 ∷ clocked 0x54 ++ 1 ∷ [])

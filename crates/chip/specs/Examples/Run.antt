@@ -9,7 +9,8 @@ use Rattle.trace.specs.Items.{clocked}
 use Rattle.laws.specs.Bits.{bitAt}
 use Rattle.parts.specs.Figures.{figureOf}
 use Rattle.stages.specs.Bits.{lowBit}
-use Rattle.stages.specs.declared.stage.Came.the-variants.{NoByte, Bytes}
+use Rattle.stages.specs.declared.stage.Came.{Came}
+use Rattle.stages.specs.declared.stage.Came.the-variants.{NoByte, NoByteLow, Bytes, BytesLow}
 use Rattle.stages.specs.declared.stage.End.the-variants.{Quiet, Drops}
 use Rattle.stages.specs.declared.stage.Line.{Line}
 use Rattle.stages.specs.declared.stage.Line.the-variants.{Down, Up}
@@ -150,6 +151,12 @@ abbrev pub lineNumber : Line → ℕ
 lineNumber Down = 0
 lineNumber Up = 1
 
+abbrev pub cameNumber : Came → ℕ
+cameNumber NoByte = 0
+cameNumber NoByteLow = 1
+cameNumber Bytes = 2
+cameNumber BytesLow = 3
+
 abbrev pub stageNumbers : Stage → List ℕ
 stageNumbers Closed = 0 ∷ []
 stageNumbers (Code shift) = 1 ∷ shift ∷ []
@@ -158,11 +165,10 @@ stageNumbers (Lower purpose shift page) = 3 ∷ purposeNumber purpose ∷ shift 
 stageNumbers (Ready what at) = 4 ∷ whatNumber what ∷ at ∷ []
 stageNumbers (ArrayOut level bit at) = 5 ∷ lineNumber level ∷ bit ∷ at ∷ []
 stageNumbers (StatusOut level bit) = 6 ∷ lineNumber level ∷ bit ∷ []
-stageNumbers (Writing NoByte shift at) = 7 ∷ shift ∷ at ∷ []
-stageNumbers (Writing Bytes shift at) = 8 ∷ shift ∷ at ∷ []
-stageNumbers (Keeping shift) = 9 ∷ shift ∷ []
-stageNumbers (Over Quiet) = 10 ∷ []
-stageNumbers (Over Drops) = 11 ∷ []
+stageNumbers (Writing came shift at) = 7 ∷ cameNumber came ∷ shift ∷ at ∷ []
+stageNumbers (Keeping wp shift) = 8 ∷ lineNumber wp ∷ shift ∷ []
+stageNumbers (Over Quiet) = 9 ∷ []
+stageNumbers (Over Drops) = 10 ∷ []
 
 abbrev pub holdNumber : Hold → ℕ
 holdNumber High = 0

@@ -9,11 +9,13 @@ use mathlib.Core.Bool.{Bool, true, false, cond}
 use mathlib.Core.List.{List, [], _∷_, _++_, append-assoc, append-nil}
 use mathlib.Core.Path.{_≡_, refl, ap, _∙_}
 use lib.ListN.{length, length-append}
-use lib.Seq.{take-at, drop-at, getD-at}
-use lib.Pow.{pow-mono}
-use borrow.Author.Tests.{lt-ltb, le-ltb}
+use lib.Seq.{take-at, drop-at}
+use lib.Dec.{eqb}
+use lib.Pow.{pow-mono, pow-pos}
+use borrow.Author.Tests.{lt-ltb, le-ltb, ne-eqb, eqb-false}
 use Rattle.parts.specs.declared.figures.Figure.{Figure}
-use Rattle.stages.specs.Bits.{lowBit, shifted, takeBit}
+use Rattle.stages.specs.Bits.{noBits, lowBit, shifted, takeBit}
+use Rattle.stages.specs.Wp.{atFirst}
 use Rattle.stages.specs.SoundLaws.{shifted-is}
 use Rattle.stages.specs.declared.bits.Taken.the-variants.{Part, Whole}
 use Rattle.history.specs.Wire.{Bit}
@@ -115,18 +117,38 @@ module _ (f : Figure) where
         cut = λ cs. simp append-assoc (c .cut (b ∷ cs));
       }
 
--- the eighth bit brings the level of /WP
-eighth : (r : List Bit) (b : Bit) → length r ≡ 7 → byte (r ++ b ∷ []) ≡ record { value = bitsValue (r ++ b ∷ []); wp = b .wp }
-eighth r b h = rw (getD-at r b [] (record { si = false; wp = true }) 7 h)
+-- the level of /WP that the bits of a byte began with: up where there is none
+unfoldable pub wpOf : List Bit → Bool
+wpOf [] = true
+wpOf (b ∷ bs) = b .wp
+
+-- with a bit after it the 1 is no more alone
+not-one : (p v : ℕ) → 0 < p → 1 * (p * 2) + v ≡ 1 → ⊥
+not-one p v h e = absurd (eqb-false 0 1 refl (omega (arith, h, e)))
+
+shift-begun : (b : Bit) (bs : List Bit) → eqb (shiftOf (b ∷ bs)) noBits ≡ false
+unfolding bitsValue
+shift-begun b bs = rw pow-suc (ne-eqb (1 * (2 ^ length bs * 2) + bitsValue (b ∷ bs)) 1 (not-one (2 ^ length bs) (bitsValue (b ∷ bs)) (pow-pos (length bs))))
+
+-- the pin gives the level to the first bit; the others leave it
+pub wp-part : (r : List Bit) (b : Bit) → atFirst (shiftOf r) (b .wp) (wpOf r) ≡ wpOf (r ++ b ∷ [])
+unfolding wpOf bitsValue
+wp-part [] b = refl
+wp-part (x ∷ xs) b = rw (shift-begun x xs)
+
+pub wp-whole : (r : List Bit) (b : Bit) → length r ≡ 7 → (eqb (shiftOf r) noBits ≡ false) × (wpOf r ≡ byte (r ++ b ∷ []) .wp)
+unfolding wpOf
+wp-whole [] b h = absurd (eqb-false 0 7 refl h)
+wp-whole (x ∷ xs) b h = (shift-begun x xs, refl)
 
 pub cut-whole :
     (f : Figure) {bs : List Bit} {read : List Byte → Reading} {r : List Bit} (b : Bit) → Cut f bs read r → length r ≡ 7
-    → Cut f (bs ++ b ∷ []) (λ more. read (record { value = bitsValue (r ++ b ∷ []); wp = b .wp } ∷ more)) []
+    → Cut f (bs ++ b ∷ []) (λ more. read (byte (r ++ b ∷ []) ∷ more)) []
 cut-whole f {read = read} {r = r} b c h =
     record {
       short = omega arith;
       cut = λ cs. simp append-assoc (c .cut (b ∷ cs) ∙ ap read (first cs));
     }
   where
-    first : (cs : List Bit) → wholeBytes (r ++ b ∷ cs) ≡ record { value = bitsValue (r ++ b ∷ []); wp = b .wp } ∷ wholeBytes cs
-    first cs = simp (append-assoc, eighth r b h) at (bytes-whole (r ++ b ∷ []) cs (rw (length-append, h)))
+    first : (cs : List Bit) → wholeBytes (r ++ b ∷ cs) ≡ byte (r ++ b ∷ []) ∷ wholeBytes cs
+    first cs = simp append-assoc at (bytes-whole (r ++ b ∷ []) cs (rw (length-append, h)))

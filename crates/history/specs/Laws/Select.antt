@@ -18,9 +18,9 @@ use Rattle.select.specs.declared.rise.Risen.{Risen}
 use Rattle.stages.specs.declared.stage.Stage.{Stage}
 use Rattle.stages.specs.declared.stage.Stage.the-variants.{Closed, Code}
 use Rattle.history.specs.Wire.{Bit, closes}
-use Rattle.history.specs.Bytes.{Byte, Reading, bitsValue, readTransfer}
+use Rattle.history.specs.Bytes.{Byte, byte, Reading, bitsValue, readTransfer}
 use Rattle.history.specs.History.{World, withLatch, effect, latchDrops}
-use Rattle.history.specs.Laws.Bytes.{Cut, cut-none, cut-bytes, cut-part, cut-whole, shiftOf, taken-part, taken-whole, value-whole}
+use Rattle.history.specs.Laws.Bytes.{Cut, cut-none, cut-bytes, cut-part, cut-whole, shiftOf, taken-part, taken-whole, value-whole, wpOf, wp-part, wp-whole}
 use Rattle.history.specs.Laws.Stage.{Image, code, image-open, image-drops, image-fall}
 use Rattle.history.specs.Laws.Rise.{seenIn, risenWorld, part-rise, whole-rise}
 use Rattle.history.specs.Laws.Place.{Place, outside, inside, isOutside, worldAt, base}
@@ -30,7 +30,7 @@ pub data Selected (f : Figure) (w : World) : Place → World → Stage → Type 
   closed : Selected f w outside w Closed
   going :
       {bs : List Bit} {v : World} {stage : Stage} (read : List Byte → Reading) (r : List Bit)
-      → Cut f bs read r → v ≡ effect f w (read []) → Image f (shiftOf r) read stage → Selected f w (inside bs) v stage
+      → Cut f bs read r → v ≡ effect f w (read []) → Image f (shiftOf r) (wpOf r) read stage → Selected f w (inside bs) v stage
 
 module _ (f : Figure) (w : World) where
   pub select-open : {p : Place} {v : World} {stage : Stage} → Selected f w p v stage → close.isClosed stage ≡ isOutside p
@@ -60,7 +60,7 @@ module _ (f : Figure) (fair : Fair f) (w : World) where
       (b : Bit) {bs : List Bit} {v : World} {stage : Stage} → Selected f w (inside bs) v stage
       → Selected f w (inside (bs ++ b ∷ [])) (risenWorld v (rise f (seenIn v (b .wp) (b .si)) stage))
       (rise f (seenIn v (b .wp) (b .si)) stage .stage)
-  unfolding bitsValue
+  unfolding bitsValue wpOf
   select-rise b {bs} {v} {stage} (going read r c e i) = go (leb 7 (length r)) refl
     where
       risen : Risen
@@ -69,18 +69,19 @@ module _ (f : Figure) (fair : Fair f) (w : World) where
       seventh : 7 ≤ length r → length r < 8 → length r ≡ 7
       seventh l h = omega arith
 
-      byte : Byte
-      byte = record { value = bitsValue (r ++ b ∷ []); wp = b .wp }
+      whole : Byte
+      whole = byte (r ++ b ∷ [])
 
       go : (t : Bool) → leb 7 (length r) ≡ t → Selected f w (inside (bs ++ b ∷ [])) (risenWorld v risen) (risen .stage)
       go true q =
           let h : length r ≡ 7 = seventh (leb-true 7 (length r) q) (c .short) in
-          let l = whole-rise f fair w v (shiftOf r) (b .si) byte (value-whole r b h) (taken-whole r b h) e i in
-          going (λ more. read (byte ∷ more)) [] (cut-whole f b c h) (l .world) (l .image)
+          let k = wp-whole r b h in
+          let l = whole-rise f fair w v (shiftOf r) (b .wp) (b .si) whole (value-whole r b h) (taken-whole r b h) (k .0) e (rw (k .1) at i) in
+          going (λ more. read (whole ∷ more)) [] (cut-whole f b c h) (l .world) (l .image)
       go false q =
           let h : length r < 7 = leb-false 7 (length r) q in
-          let l = part-rise f w v (shiftOf r) (shiftOf (r ++ b ∷ [])) (b .wp) (b .si) (taken-part r b h) e i in
-          going read (r ++ b ∷ []) (cut-part f b c h) (l .world) (l .image)
+          let l = part-rise f w v (shiftOf r) (shiftOf (r ++ b ∷ [])) (wpOf r) (b .wp) (b .si) (taken-part r b h) e i in
+          going read (r ++ b ∷ []) (cut-part f b c h) (l .world) (rw (wp-part r b) at (l .image))
 
   -- a seen rise of /CS
   pub select-close :

@@ -8,9 +8,10 @@ use lib.Dec.{eqb}
 use Rattle.parts.specs.declared.figures.Figure.{Figure}
 use Rattle.stages.specs.Address.{upperPage, nextAddress}
 use Rattle.stages.specs.Close as close
+use Rattle.stages.specs.Wp.{lineOf, cameWith}
 use Rattle.select.specs.Fall.{fall, showArray, showStatus}
 use Rattle.stages.specs.declared.stage.Came.{Came}
-use Rattle.stages.specs.declared.stage.Came.the-variants.{NoByte, Bytes}
+use Rattle.stages.specs.declared.stage.Came.the-variants.{NoByte, NoByteLow, Bytes, BytesLow}
 use Rattle.stages.specs.declared.stage.End.the-variants.{Quiet, Drops}
 use Rattle.stages.specs.declared.stage.Line.{Line}
 use Rattle.stages.specs.declared.stage.Purpose.{Purpose}
@@ -33,7 +34,9 @@ pub data Ended : Bool → Stage → Type 0 where
 -- at least one whole data byte came, or comes now
 abbrev pub wrote : Came → List Byte → Bool
 wrote NoByte bs = atLeastOne bs
+wrote NoByteLow bs = atLeastOne bs
 wrote Bytes bs = true
+wrote BytesLow bs = true
 
 -- the data of a WRITE from an address on; those of a READ change nothing
 abbrev pub dataOf : Purpose → ℕ → List Byte → Reading
@@ -58,21 +61,21 @@ module _ (f : Figure) where
     pub world : (w : World) (bs : List Byte) → effect f w (read bs) ≡ now w
     pub latch : (bs : List Byte) → latchDrops (read bs) ≡ drop
 
-  -- what a stage is to the history, with `sh` for the bits of the next byte
-  pub data Image (sh : ℕ) : (List Byte → Reading) → Stage → Type 0 where
-    code : Image sh (readTransfer f) (Code sh)
+  -- what a stage is to the history, with `sh` for the bits of the next byte and `wp` for its level of /WP
+  pub data Image (sh : ℕ) (wp : Bool) : (List Byte → Reading) → Stage → Type 0 where
+    code : Image sh wp (readTransfer f) (Code sh)
     upper :
         {read : List Byte → Reading} (purpose : Purpose) → Idle (read [])
-        → ((u : Byte) → Paged purpose (upperPage f (u .value)) (λ bs. read (u ∷ bs))) → Image sh read (Upper purpose sh)
-    lower : {read : List Byte → Reading} (purpose : Purpose) (page : ℕ) → Paged purpose page read → Image sh read (Lower purpose sh page)
+        → ((u : Byte) → Paged purpose (upperPage f (u .value)) (λ bs. read (u ∷ bs))) → Image sh wp read (Upper purpose sh)
+    lower : {read : List Byte → Reading} (purpose : Purpose) (page : ℕ) → Paged purpose page read → Image sh wp read (Lower purpose sh page)
     writing :
         {read : List Byte → Reading} (came : Came) (start k : ℕ) (now : World → World)
         → ((w : World) (bs : List Byte) → effect f w (read bs) ≡ overlay f start k (now w) bs)
-        → ((bs : List Byte) → latchDrops (read bs) ≡ wrote came bs) → Image sh read (Writing came sh ((start + k) % f .size))
-    keeping : {read : List Byte → Reading} → ((bs : List Byte) → read bs ≡ keeps bs) → Image sh read (Keeping sh)
+        → ((bs : List Byte) → latchDrops (read bs) ≡ wrote came bs) → Image sh wp read (Writing (cameWith came wp) sh ((start + k) % f .size))
+    keeping : {read : List Byte → Reading} → ((bs : List Byte) → read bs ≡ keeps bs) → Image sh wp read (Keeping (lineOf wp) sh)
     over :
         {read : List Byte → Reading} {stage : Stage} (now : World → World) (drop : Bool)
-        → Settled read now drop → Ended drop stage → Image sh read stage
+        → Settled read now drop → Ended drop stage → Image sh wp read stage
 
   -- it is an open select's
   ended-open : {d : Bool} {stage : Stage} → Ended d stage → close.isClosed stage ≡ false
@@ -82,7 +85,7 @@ module _ (f : Figure) where
   ended-open (array level bit at) = refl
   ended-open (status level bit) = refl
 
-  pub image-open : {sh : ℕ} {read : List Byte → Reading} {stage : Stage} → Image sh read stage → close.isClosed stage ≡ false
+  pub image-open : {sh : ℕ} {wp : Bool} {read : List Byte → Reading} {stage : Stage} → Image sh wp read stage → close.isClosed stage ≡ false
   image-open code = refl
   image-open (upper purpose i l) = refl
   image-open (lower purpose page l) = refl
@@ -98,13 +101,23 @@ module _ (f : Figure) where
   ended-drops (array level bit at) = refl
   ended-drops (status level bit) = refl
 
-  pub image-drops : {sh : ℕ} {read : List Byte → Reading} {stage : Stage} → Image sh read stage → close.drops stage ≡ latchDrops (read [])
+  came-drops : (came : Came) (wp : Bool) (sh at : ℕ) → close.drops (Writing (cameWith came wp) sh at) ≡ wrote came []
+  unfolding atLeastOne
+  came-drops NoByte true sh at = refl
+  came-drops NoByte false sh at = refl
+  came-drops NoByteLow true sh at = refl
+  came-drops NoByteLow false sh at = refl
+  came-drops Bytes true sh at = refl
+  came-drops Bytes false sh at = refl
+  came-drops BytesLow true sh at = refl
+  came-drops BytesLow false sh at = refl
+
+  pub image-drops : {sh : ℕ} {wp : Bool} {read : List Byte → Reading} {stage : Stage} → Image sh wp read stage → close.drops stage ≡ latchDrops (read [])
   unfolding readTransfer latchDrops atLeastOne
   image-drops code = refl
   image-drops (upper purpose i l) = sym (i .latch)
   image-drops (lower purpose page l) = sym (l .before .latch)
-  image-drops (writing NoByte start k now p d) = sym (d [])
-  image-drops (writing Bytes start k now p d) = sym (d [])
+  image-drops {sh = sh} {wp = wp} (writing came start k now p d) = came-drops came wp sh ((start + k) % f .size) ∙ sym (d [])
   image-drops (keeping p) = sym (ap latchDrops (p []))
   image-drops (over now d s e) = ended-drops e ∙ sym (s .latch [])
 
@@ -128,7 +141,7 @@ module _ (f : Figure) where
         go false = status _ (bit - 1)
 
     pub image-fall :
-        {sh : ℕ} {read : List Byte → Reading} {stage : Stage} → Image sh read stage → Image sh read (fall f xs level stage)
+        {sh : ℕ} {wp : Bool} {read : List Byte → Reading} {stage : Stage} → Image sh wp read stage → Image sh wp read (fall f xs level stage)
     unfolding fall
     image-fall code = code
     image-fall (upper purpose i l) = upper purpose i l

@@ -1,4 +1,3 @@
--- Case by case: the bits, the address and the count each as the definition asks.
 use Rattle.stages.specs.Sound.{soundStage}
 use borrow.Author.Needs.{needs}
 use Rattle.stages.proofs.sound.sound_stage.Statement.{statement}
@@ -34,11 +33,11 @@ returns-7 c = simp (c .before .stage6 .given .1)
 
 returns-8 : tie.Need-returns-8
 unfolding soundStage
-returns-8 c = simp (c .sound-shift4 .ensures, c .before .before .before .stage7 .given .1)
+returns-8 c = simp (c .came-up .ensures, c .before .sound-shift4 .ensures, c .before .before .before .before .stage7 .given .1)
 
 returns-9 : tie.Need-returns-9
 unfolding soundStage
-returns-9 c = simp (c .sound-shift5 .ensures, c .before .before .stage8 .given .1)
+returns-9 c = simp (c .is-up .ensures, c .before .sound-shift5 .ensures, c .before .before .before .stage8 .given .1)
 
 returns-10 : tie.Need-returns-10
 unfolding soundStage
@@ -48,8 +47,33 @@ pub sound-stage-spec : {M : Type 1} → statement M
 sound-stage-spec =
     tie.close
     (tie.spec
-    (λ c. search needs) (λ c. search needs) (λ c κs. search needs) (λ c. search needs) (λ c κs. search needs)
-    (λ c. search needs) (λ c. search needs) (λ c. search needs) (λ c κs. search needs) (λ c. search needs)
-    (λ c κs. search needs) (λ c. search needs) (λ c. search needs) (λ c. search needs) (λ c κs. search needs)
-    (λ c. search needs) (λ c κs. search needs) (λ c. search needs) returns returns-2 returns-3 returns-4 returns-5
-    returns-6 returns-7 returns-8 returns-9 returns-10)
+    (λ c. search needs)
+    (λ c. search needs)
+    (λ c κs. search needs)
+    (λ c. search needs)
+    (λ c κs. search needs)
+    (λ c. search needs)
+    (λ c. search needs)
+    (λ c. search needs)
+    (λ c κs. search needs)
+    (λ c. search needs)
+    (λ c κs. search needs)
+    (λ c. search needs)
+    (λ c. search needs)
+    (λ c. search needs)
+    (λ c κs. search needs)
+    (λ c κs. search needs)
+    (λ c. search needs)
+    (λ c κs. search needs)
+    (λ c κs. search needs)
+    (λ c. search needs)
+    returns
+    returns-2
+    returns-3
+    returns-4
+    returns-5
+    returns-6
+    returns-7
+    returns-8
+    returns-9
+    returns-10)

@@ -1,0 +1,62 @@
+// /WP and the data byte under way (document 02, Wish 2).
+ghost use mathlib.Core.Path.{_≡_};
+ghost use Rattle.stages.specs.Wp.{isUp, cameUp, cameWith, byteWp, byteCame};
+use crate::bits::NO_BITS;
+use crate::stage::Came;
+use crate::stage::Line;
+
+// Whether a level is up.
+pub fn is_up(line: Line) -> bool
+    ensures { λ r. ⌜ r ≡ isUp line ⌝ }
+{
+    match line {
+        Line::Down => false,
+        Line::Up => true,
+    }
+}
+
+// Whether the level that is remembered with what came is up.
+pub fn came_up(came: Came) -> bool
+    ensures { λ r. ⌜ r ≡ cameUp came ⌝ }
+{
+    match came {
+        Came::NoByte => true,
+        Came::NoByteLow => false,
+        Came::Bytes => true,
+        Came::BytesLow => false,
+    }
+}
+
+// What came, with this level.
+fn came_with(came: Came, wp: bool) -> Came
+    ensures { λ r. ⌜ r ≡ cameWith came wp ⌝ }
+{
+    match came {
+        Came::NoByte => if wp { Came::NoByte } else { Came::NoByteLow },
+        Came::NoByteLow => if wp { Came::NoByte } else { Came::NoByteLow },
+        Came::Bytes => if wp { Came::Bytes } else { Came::BytesLow },
+        Came::BytesLow => if wp { Came::Bytes } else { Came::BytesLow },
+    }
+}
+
+// The level that counts for WRSR's data byte: the pin's at the byte's first rise, from then on the one that was remembered.
+pub fn byte_wp(wp: Line, shift: u16, pin: bool) -> Line
+    ensures { λ r. ⌜ r ≡ byteWp wp shift pin ⌝ }
+{
+    if shift == NO_BITS {
+        if pin { Line::Up } else { Line::Down }
+    } else {
+        wp
+    }
+}
+
+// The same for a WRITE's.
+pub fn byte_came(came: Came, shift: u16, pin: bool) -> Came
+    ensures { λ r. ⌜ r ≡ byteCame came shift pin ⌝ }
+{
+    if shift == NO_BITS {
+        came_with(came, pin)
+    } else {
+        came
+    }
+}
