@@ -1,5 +1,5 @@
 -- What every rule may rely on in a part's row, whichever part it is. A new row is checked here, once. Assumes nothing.
-use Prim.Native.Nat.{ℕ, zero, suc, _+_, _*_, _/_, _<_, _≤_, _-_, _^_}
+use Prim.Native.Nat.{ℕ, zero, suc, _+_, _*_, _<_, _≤_, _-_, _^_}
 use mathlib.Core.Path.{_≡_, refl}
 use mathlib.Core.Bool.{Bool, true, false, _&&_}
 use mathlib.Core.List.{List, [], _∷_}
@@ -30,9 +30,6 @@ pub record Fair (f : Figure) : Type 0 where
   pub bits : ℕ
   pub low : f .upper ≡ 2 ^ bits - 1
   pub header : Header (f .«address_bytes») (f .top)
-  -- "the upper quarter", "the upper half"
-  pub quarter : f .quarter ≡ f .size - f .size / 4
-  pub half : f .half ≡ f .size - f .size / 2
 
 pub data AllFair : List Figure → Type 0 where
   done : AllFair []
@@ -41,11 +38,11 @@ pub data AllFair : List Figure → Type 0 where
 -- each row; a new one has its line here
 like-part-1 : Fair fm25l04
 like-part-1 =
-    record { mask = lit< tt; pages = refl; top = lit≤ tt; bits = 1; low = refl; header = one 3 refl refl; quarter = refl; half = refl }
+    record { mask = lit< tt; pages = refl; top = lit≤ tt; bits = 1; low = refl; header = one 3 refl refl }
 
 like-part-3 : Fair fm25c160
 like-part-3 =
-    record { mask = lit< tt; pages = refl; top = lit≤ tt; bits = 3; low = refl; header = two refl refl; quarter = refl; half = refl }
+    record { mask = lit< tt; pages = refl; top = lit≤ tt; bits = 3; low = refl; header = two refl refl }
 
 all-fair : AllFair rows
 all-fair = also like-part-1 (also like-part-1 (also like-part-3 done))

@@ -3,8 +3,7 @@
 -- latch; address_bytes, how many follow the op-code; upper, the upper address bits that are not ignored; top, the bit of
 -- READ's and WRITE's op-code that is the top address bit, 0 for none; guards_array, whether /WP low holds back the array;
 -- enable, the kept bit (WPEN) that must be set for /WP low to hold back the status byte, 0 where none need be; bp0 and
--- bp1, the block bits BP0 and BP1; quarter and half, where the upper quarter and the upper half begin; ops, the op-codes
--- with their commands.
+-- bp1, the block bits BP0 and BP1; ops, the op-codes with their commands.
 use Prim.Native.Nat.{ℕ}
 use mathlib.Core.Bool.{Bool, true, false, _&&_}
 use mathlib.Core.List.{List, [], _∷_}
@@ -28,7 +27,7 @@ abbrev filler : Op
 filler = op 0 Other
 
 -- "1 | FM25L04 | 512 | op-code bit 3 is the top bit, then one byte | 0Ch". "READ 03h and 0Bh, WRITE 02h and 0Ah, bit 3
---  being A8." "/WP low holds back the array and the status byte." "180h and 100h up."
+--  being A8." "/WP low holds back the array and the status byte."
 abbrev pub fm25l04 : Figure
 fm25l04 =
     record {
@@ -42,8 +41,6 @@ fm25l04 =
       enable = 0;
       bp0 = 0x04;
       bp1 = 0x08;
-      quarter = 0x180;
-      half = 0x100;
       ops = common (op 0x03 Read ∷ op 0x0B Read ∷ op 0x02 Write ∷ op 0x0A Write ∷ []);
     }
 
@@ -52,7 +49,7 @@ abbrev pub fm25l04b : Figure
 fm25l04b = fm25l04
 
 -- "3 | FM25C160 | 2,048 | two bytes, upper five bits ignored | 8Ch". "READ 03h, WRITE 02h." "/WP low with WPEN set holds
---  back the status byte only." "600h and 400h up."
+--  back the status byte only."
 abbrev pub fm25c160 : Figure
 fm25c160 =
     record {
@@ -66,8 +63,6 @@ fm25c160 =
       enable = 0x80;
       bp0 = 0x04;
       bp1 = 0x08;
-      quarter = 0x600;
-      half = 0x400;
       ops = common (op 0x03 Read ∷ op 0x02 Write ∷ filler ∷ filler ∷ []);
     }
 

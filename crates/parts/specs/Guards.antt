@@ -1,6 +1,6 @@
 -- "Who may write" (document 01). Assumes nothing.
-use Prim.Native.Nat.{ℕ}
-use mathlib.Core.Bool.{Bool, cond, not, _&&_}
+use Prim.Native.Nat.{ℕ, _-_, _/_}
+use mathlib.Core.Bool.{Bool, true, false, cond, not, _&&_}
 use lib.Dec.{eqb, leb}
 use lib.Bits.{bitAnd}
 use Rattle.parts.specs.declared.figures.Figure.{Figure}
@@ -19,12 +19,16 @@ reasonNumber Block = 3
 abbrev pub isSet : ℕ → ℕ → Bool
 isSet kept bit = not (eqb (bitAnd kept bit) 0)
 
--- "Blocks, by BP1 BP0: 00 none, 01 the upper quarter, 10 the upper half, 11 all." The first address that is guarded.
+-- "Blocks, by BP1 BP0: 00 none, 01 the upper quarter, 10 the upper half, 11 all." How many bytes they guard.
+abbrev pub guarded : Bool → Bool → ℕ → ℕ
+guarded false false size = 0
+guarded false true size = size / 4
+guarded true false size = size / 2
+guarded true true size = size
+
+-- "the first protected address is the size, less nothing, a quarter, a half or all of it" (document 02, Wish 4)
 unfoldable pub firstProtected : Figure → ℕ → ℕ
-firstProtected f kept =
-    cond (isSet kept (f .bp1))
-    (cond (isSet kept (f .bp0)) 0 (f .half))
-    (cond (isSet kept (f .bp0)) (f .quarter) (f .size))
+firstProtected f kept = f .size - guarded (isSet kept (f .bp1)) (isSet kept (f .bp0)) (f .size)
 
 -- "The latch must be set. Parts 1 and 2: /WP low holds back the array and the status byte." And the blocks; "the
 --  lowest that applies is given".

@@ -24,9 +24,6 @@ pub struct Figure {
     // The block bits BP0 and BP1 of the status byte.
     pub bp0: u8,
     pub bp1: u8,
-    // Where the upper quarter and the upper half begin.
-    pub quarter: usize,
-    pub half: usize,
     // Its op-codes with their commands.
     pub ops: [Op; OPS],
 }
@@ -89,8 +86,6 @@ const FM25L04: Figure = Figure {
     enable: 0,
     bp0: 0x04,
     bp1: 0x08,
-    quarter: 0x180,
-    half: 0x100,
     ops: [WREN, WRDI, RDSR, WRSR, READ, READ_TOP, WRITE, WRITE_TOP],
 };
 
@@ -108,8 +103,6 @@ const FM25C160: Figure = Figure {
     enable: 0x80,
     bp0: 0x04,
     bp1: 0x08,
-    quarter: 0x600,
-    half: 0x400,
     ops: [WREN, WRDI, RDSR, WRSR, READ, WRITE, FILLER, FILLER],
 };
 

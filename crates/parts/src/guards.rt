@@ -18,13 +18,14 @@ pub enum Verdict {
 pub fn first_protected(f: Figure, kept: u8) -> usize
     ensures { λ r. ⌜ r ≡ firstProtected f kept ⌝ }
 {
-    let high = kept & f.bp1 != 0;
-    let low = kept & f.bp0 != 0;
-    if high {
-        if low { 0 } else { f.half }
+    let bp1 = kept & f.bp1 != 0;
+    let bp0 = kept & f.bp0 != 0;
+    let guarded = if bp1 {
+        if bp0 { f.size } else { f.size / 2 }
     } else {
-        if low { f.quarter } else { f.size }
-    }
+        if bp0 { f.size / 4 } else { 0 }
+    };
+    f.size - guarded
 }
 
 // Whether a whole memory byte may be stored; the lowest reason where not.
