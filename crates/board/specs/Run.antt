@@ -1,0 +1,60 @@
+-- The board's run over a list of events: the board threaded, the slice as each event left it. Assumes nothing.
+use Prim.Native.Nat.{ℕ, zero, suc}
+use mathlib.Core.Bool.{Bool, cond, not, _||_}
+use mathlib.Core.List.{List, [], _∷_}
+use lib.Dec.{eqb}
+use lib.ListN.{take, drop}
+use Rattle.chip.specs.Run.{Chip}
+use Rattle.board.specs.Chips.{pieceLength, chipsOf}
+use Rattle.board.specs.Checks.{isOwn}
+use Rattle.board.specs.Event.{refusal, event}
+use Rattle.board.specs.Power.{powerUp}
+use Rattle.board.specs.declared.chips.Board.{Board}
+use Rattle.board.specs.declared.power.Asked.{Asked}
+use Rattle.board.specs.declared.power.Plan.{Plan}
+
+-- a board with the slice that is lent to it
+pub record Held : Type 0 where
+  pub board : Board
+  pub slice : List ℕ
+
+abbrev pub chips : Held → List Chip
+chips h = chipsOf (h .board) (h .slice)
+
+-- an event: its code, and for an own line whose it is
+pub record Sent : Type 0 where
+  pub chip : ℕ
+  pub code : ℕ
+
+abbrev pub refusalOf : Held → Sent → ℕ
+refusalOf h e = refusal (h .slice) (h .board) (e .chip) (e .code)
+
+-- one event; a refused one changes nothing, as its outcome says
+unfoldable pub next : Held → Sent → Held
+next h e =
+    record {
+      board = event (h .slice) (h .board) (e .chip) (e .code) .board;
+      slice = event (h .slice) (h .board) (e .chip) (e .code) .slice;
+    }
+
+unfoldable pub run : Held → List Sent → Held
+run h [] = h
+run h (e ∷ es) = run (next h e) es
+
+-- what the board's power-up gives, over the slice that was lent to it
+abbrev pub fromPowerUp : Plan → List ℕ → Held
+fromPowerUp p xs = record { board = powerUp p xs .board; slice = xs }
+
+-- chip k's piece of the slice at power-up
+unfoldable pub pieceAt : List Asked → List ℕ → ℕ → List ℕ
+pieceAt [] xs k = []
+pieceAt (a ∷ more) xs zero = take (pieceLength (a .part)) xs
+pieceAt (a ∷ more) xs (suc k) = pieceAt more (drop (pieceLength (a .part)) xs) k
+
+-- "the events it sees": those of the shared lines, and of its own
+unfoldable pub sees : ℕ → Sent → Bool
+sees k e = not (isOwn (e .code)) || eqb (e .chip) k
+
+unfoldable pub seen : ℕ → List Sent → List ℕ
+seen k [] = []
+seen k (e ∷ es) = cond (sees k e) (e .code ∷ seen k es) (seen k es)
