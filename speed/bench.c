@@ -1,5 +1,5 @@
 /* bench: compares and times the proved chip's list call and event call with the C chip's list.
-     bench fuzz [EVENTS] [SEED]   random and structured lists on parts 1 and 3; stops at the first difference, made small
+     bench fuzz [EVENTS] [SEED]   random and structured lists on parts 1, 3 and 4; stops at the first difference, made small
      bench time [RUNS] [PAD]      least time of RUNS runs on four traces for each part
      bench once PART TRACE SIDE   one run, trace 0 to 3, side 0 the list call, 1 the C chip, 2 event calls: for a count of
                                   instructions */
@@ -36,7 +36,7 @@ static void clocks(struct list *l, size_t n) { while (n--) { put(l, 3); put(l, 2
 static void header(struct list *l, int part, int op, unsigned at)
 {
     put(l, 0);
-    if (part == 3) { byte(l, op); byte(l, at >> 8); } else byte(l, op | (at >> 8 & 1) << 3);
+    if (part >= 3) { byte(l, op); byte(l, at >> 8); } else byte(l, op | (at >> 8 & 1) << 3);
     byte(l, at & 255);
 }
 
@@ -63,16 +63,19 @@ static void noisy_byte(struct list *l, int b)
 static void transfer(struct list *l, int part)
 {
     static const uint8_t ops[] = {6, 6, 6, 4, 5, 5, 1, 2, 2, 2, 3, 3, 10, 11, 6, 2};
-    int op = rnd(12) ? ops[rnd(sizeof ops)] : (int)rnd(256);
+    static const uint8_t more[] = {0xB9, 0x9F, 11, 11, 0xC3, 0x9F, 0xB9, 1};
+    int op = !rnd(12) ? (int)rnd(256) : part == 4 && !rnd(4) ? more[rnd(sizeof more)] : ops[rnd(sizeof ops)];
     if (rnd(8) == 0) put(l, 3 - rnd(2));
     put(l, 0);
     noisy_byte(l, op);
     unsigned n = rnd(5);
     if (op == 2 || op == 3 || op == 10 || op == 11) {
-        if (part == 3) noisy_byte(l, rnd(3) ? (int)rnd(8) : (int)rnd(256));
+        if (part >= 3) noisy_byte(l, rnd(3) ? (int)(rnd(2) ? PARTS[part].upper : rnd(8)) : (int)rnd(256));
+        if (part == 4 && op == 11) noisy_byte(l, (int)rnd(256));
         noisy_byte(l, rnd(3) ? (int)rnd(256) : 252 + (int)rnd(4));
         n = rnd(10) ? rnd(6) : rnd(40);
     }
+    if (op == 0x9F) n = rnd(13);
     while (n--) noisy_byte(l, rnd(256));
     if (rnd(3) == 0) for (unsigned k = rnd(8); k; k--) { put(l, 4 + rnd(2)); noise(l); put(l, 3); noise(l); put(l, 2); noise(l); }
     if (rnd(10)) put(l, 1);
@@ -92,7 +95,7 @@ static void random_codes(struct list *l, int part, size_t n, int any)
 {
     static const uint8_t common[] = {3, 2, 3, 2, 3, 2, 3, 2, 4, 5, 4, 5};
     struct chip c;
-    uint8_t array[2048] = {0};
+    static uint8_t array[16384];
     chip_power_up(&c, part, 0, array);
     l->n = 0;
     while (l->n < n) {
@@ -107,7 +110,7 @@ static void random_codes(struct list *l, int part, size_t n, int any)
 static void mostly_accepted(struct list *l, int part)
 {
     struct chip c;
-    uint8_t array[2048] = {0};
+    static uint8_t array[16384];
     chip_power_up(&c, part, 0, array);
     size_t m = 0;
     for (size_t i = 0; i < l->n; i++) {
@@ -125,7 +128,7 @@ static int differs(int part, const uint64_t *v, size_t n, int spare, int off, in
 {
     static uint8_t *levels[3]; static size_t room;
     if (room < n + 64) { room = n + 64; for (int k = 0; k < 3; k++) levels[k] = realloc(levels[k], room); }
-    uint8_t array[3][2050];
+    static uint8_t array[3][16386];
     size_t size = PARTS[part].size + off, places = n + spare;
     uint64_t told[3];
     int bad = 0, last = off == 0 && spare >= 0 ? 2 : 1;
@@ -159,8 +162,9 @@ static int fuzz(uint64_t events)
     struct list l = {0};
     uint64_t done = 0, lists = 0, refused[256] = {0}, seen[12] = {0};
     while (done < events) {
-        int part = lists % 2 ? 3 : 1;
-        switch (lists / 2 % 4) {
+        static const uint8_t parts[] = {1, 3, 4};
+        int part = parts[lists % 3];
+        switch (lists / 3 % 4) {
         case 0: random_codes(&l, part, 20000, 0); break;
         case 1: random_codes(&l, part, 2000, 1); break;
         case 2: structured(&l, part, 3000); break;
@@ -170,7 +174,7 @@ static int fuzz(uint64_t events)
         static const int places[] = {0, 0, 1, 40, 0, -1};
         int spare = places[lists % 6], off = lists % 29 == 28 ? 1 - 2 * (int)rnd(2) : 0;
         if (differs(part, l.v, l.n, spare, off, 0)) { shrink(part, &l, spare, off); return 1; }
-        uint8_t a[2048] = {0}, *lv = calloc(l.n, 1);
+        static uint8_t a[16384]; uint8_t *lv = calloc(l.n, 1);
         uint64_t told = c_list(part, l.v, l.n, a, PARTS[part].size + off, lv, l.n + spare), n = told >> 8;
         for (uint64_t i = 0; i < n; i++) seen[l.v[i]]++;
         free(lv);
@@ -206,7 +210,7 @@ static void trace(struct list *l, int part, int kind)
         seed = 77;
         structured(l, part, 400000); mostly_accepted(l, part);
         for (size_t i = 0; i < l->n; i++) if (l->v[i] > 11) l->v[i] = 4;
-        struct chip c; uint8_t array[2048] = {0}; size_t m = 0;
+        struct chip c; static uint8_t array[16384]; size_t m = 0;
         chip_power_up(&c, part, 0, array);
         for (size_t i = 0; i < l->n; i++) { struct chip was = c; if (chip_event(&c, l->v[i])) c = was; else l->v[m++] = l->v[i]; }
         l->n = m;
@@ -214,8 +218,8 @@ static void trace(struct list *l, int part, int kind)
 }
 static void run_once(int part, struct list *l, int side, uint8_t *levels)
 {
-    uint8_t array[2048];
-    memset(array, 0x5A, sizeof array);
+    static uint8_t array[16384];
+    memset(array, 0x5A, PARTS[part].size);
     uint64_t told = sides[side](part, l->v, l->n, array, PARTS[part].size, levels, l->n);
     if (told != l->n * 256) { printf("refused at %llu\n", (unsigned long long)told >> 8); exit(1); }
 }
@@ -225,8 +229,10 @@ static double now(void) { struct timespec t; clock_gettime(CLOCK_MONOTONIC, &t);
 static void timing(int runs, int pad)
 {
     struct list l = {0};
-    for (int part = 1; part <= 3; part += 2)
+    static const int parts[] = {1, 3, 4};
+    for (int i = 0; i < 3; i++)
         for (int kind = 0; kind < 4; kind++) {
+            int part = parts[i];
             trace(&l, part, kind);
             uint8_t *levels = malloc(l.n);
             double best[3] = {1e30, 1e30, 1e30};

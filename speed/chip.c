@@ -2,11 +2,13 @@
 #include "chip.h"
 #include <string.h>
 
-const struct part PARTS[4] = {
+const struct part PARTS[5] = {
     {0},
     {.size = 512, .quarter = 0x180, .half = 0x100, .mask = 0x0C, .address_bytes = 1, .upper = 1, .top = 8, .enable = 0, .guards_array = 1},
     {.size = 512, .quarter = 0x180, .half = 0x100, .mask = 0x0C, .address_bytes = 1, .upper = 1, .top = 8, .enable = 0, .guards_array = 1},
     {.size = 2048, .quarter = 0x600, .half = 0x400, .mask = 0x8C, .address_bytes = 2, .upper = 7, .top = 0, .enable = 0x80, .guards_array = 0},
+    {.size = 16384, .quarter = 0x3000, .half = 0x2000, .mask = 0x8C, .address_bytes = 2, .upper = 0x3F, .top = 0, .enable = 0x80, .guards_array = 0,
+     .fast = 0x0B, .sleep = 0xB9, .rdid = 0x9F, .ident = {0x7F, 0x7F, 0x7F, 0x7F, 0x7F, 0x7F, 0xC2, 0x21, 0x00}, .wp_at_fall = 1},
 };
 
 static void at_rest(struct chip *c, int power)
@@ -50,10 +52,10 @@ static int take(struct chip *c)
     return 1;
 }
 
-/* Of a data byte: /WP is read at its first bit (Wish 2). */
+/* Of a data byte: /WP is read at its first bit (Wish 2), or was read at the fall of /CS (Wish 3). */
 static int take_data(struct chip *c)
 {
-    if (c->bits == 0)
+    if (c->bits == 0 && !c->p->wp_at_fall)
         c->byte_wp = c->wp;
     return take(c);
 }
@@ -76,14 +78,23 @@ static void op_code(struct chip *c)
     switch (op) {
     case 0x06: c->latch = 1; note(c, LATCH, 0, 1); return;
     case 0x04: c->latch = 0; note(c, LATCH, 0, 0); return;
-    case 0x05: c->status = 1; c->stage = READY; return;
+    case 0x05: c->what = STATUS; c->stage = READY; return;
     case 0x01: c->stage = KEEPING; return;
     }
     uint8_t plain = op & ~c->p->top;
-    if (plain != 0x03 && plain != 0x02)
+    if (plain == 0x03) c->header = READY;
+    else if (plain == 0x02) c->header = WRITING;
+    else if (op == c->p->fast && op) c->header = DUMMY;
+    else {
+        if (op == c->p->rdid && op) {
+            c->what = IDENT;
+            c->at = 0;
+            c->stage = READY;
+        }
+        c->sleeps = op == c->p->sleep && op;
         return;
-    c->write = plain == 0x02;
-    c->status = 0;
+    }
+    c->what = ARRAY;
     c->at = (op & c->p->top) ? 1 : 0;
     c->stage = c->p->address_bytes == 2 ? UPPER : LOWER;
 }
@@ -131,8 +142,12 @@ static void sck_rise(struct chip *c)
     case LOWER:
         if (take(c)) {
             c->at = c->at << 8 | c->byte;
-            c->stage = c->write ? WRITING : READY;
+            c->stage = c->header;
         }
+        break;
+    case DUMMY:
+        if (take(c))
+            c->stage = READY;
         break;
     case WRITING:
         if (take_data(c))
@@ -147,7 +162,7 @@ static void sck_rise(struct chip *c)
 
 static void show(struct chip *c)
 {
-    uint8_t byte = c->status ? c->kept | c->latch << 1 : c->array[c->at];
+    uint8_t byte = c->what == ARRAY ? c->array[c->at] : c->what == STATUS ? c->kept | c->latch << 1 : c->p->ident[c->at];
     c->so = byte >> c->bit & 1;
 }
 
@@ -155,7 +170,7 @@ static void sck_fall(struct chip *c)
 {
     if (c->stage == SHOWING) {
         if (c->bit == 0) {
-            if (c->status) {
+            if (c->what == STATUS || (c->what == IDENT && c->at == sizeof c->p->ident - 1)) {
                 c->stage = OVER;
                 c->so = RELEASED;
                 return;
@@ -191,9 +206,10 @@ static INLINE int one(struct chip *c, uint64_t code)
         if (c->cs) {
             c->cs = 0;
             if (c->hold) {
-                c->stage = CODE;
+                c->stage = c->stage == ASLEEP ? OVER : CODE;
                 c->bits = c->byte = 0;
-                c->whole = 0;
+                c->whole = c->sleeps = 0;
+                c->byte_wp = c->wp;
             }
         }
         return 0;
@@ -205,7 +221,7 @@ static INLINE int one(struct chip *c, uint64_t code)
                     c->latch = 0;
                     note(c, LATCH, 0, 0);
                 }
-                c->stage = CLOSED;
+                c->stage = c->sleeps ? ASLEEP : CLOSED;
                 c->so = RELEASED;
             }
         }

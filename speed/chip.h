@@ -1,10 +1,11 @@
-/* The chip of documents 01 and 02 (to Wish 2), by hand in C: the state in a struct by pointer, a switch on the event's code. */
+/* The chip of documents 01 and 02 (to Wish 3), by hand in C: the state in a struct by pointer, a switch on the event's code. */
 #ifndef CHIP_H
 #define CHIP_H
 #include <stdint.h>
 #include <stddef.h>
 
-enum stage { CLOSED, CODE, UPPER, LOWER, READY, SHOWING, WRITING, KEEPING, OVER };
+enum stage { CLOSED, CODE, UPPER, LOWER, READY, SHOWING, WRITING, KEEPING, OVER, DUMMY, ASLEEP };
+enum what { ARRAY, STATUS, IDENT };
 enum so { LOW, HIGH, RELEASED };
 enum note { NOTHING, LATCH, STORED, HELD_BACK, KEPT_SET, KEPT_HELD_BACK, POWER_LOST };
 
@@ -12,20 +13,22 @@ struct part {
     uint32_t size, quarter, half;
     uint8_t mask, address_bytes, upper, top, enable;
     uint8_t guards_array;
+    /* FSTRD's op-code, SLEEP's, RDID's: 0 where there is none; the bytes of the last; whether /WP at the fall of /CS counts. */
+    uint8_t fast, sleep, rdid, ident[9], wp_at_fall;
 };
 
 struct chip {
     const struct part *p;
     uint8_t *array;
     uint32_t at;
-    uint8_t stage, bits, byte, bit, write, status, whole;
+    uint8_t stage, bits, byte, bit, what, header, whole, sleeps;
     uint8_t kept, power, cs, sck, si, hold, wp, byte_wp, held_cs, latch, so;
     /* The last event's note. */
     uint8_t note, note_value;
     uint32_t note_at;
 };
 
-extern const struct part PARTS[4];
+extern const struct part PARTS[5];
 
 void chip_power_up(struct chip *c, int part, uint8_t kept, uint8_t *array);
 /* 0, or the refusal. The level of SO is chip_so(c). */

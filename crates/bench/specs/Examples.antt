@@ -9,7 +9,8 @@ use Rattle.parts.specs.Figures.{figureOf}
 use Rattle.parts.specs.Commands.{command}
 use Rattle.stages.specs.Address.{afterCode}
 use Rattle.stages.specs.Bits.{takeBit, bitOf}
-use Rattle.stages.specs.Wp.{byteWp, byteCame}
+use Rattle.stages.specs.Wp.{fallWp, byteWp, byteCame}
+use Rattle.stages.specs.Close.{afterFall}
 use Rattle.stages.specs.Sound.{soundStage}
 use Rattle.select.specs.Fall.{showArray, showStatus, fall}
 use Rattle.select.specs.Rise.{opened, codeRise, rise}
@@ -84,12 +85,12 @@ traces =
     }
     -- "a kept number over 255 is 3, after 1"; line 1 is "absent if power-up isn't reached"
     ∷ record { trace = 0x03 ∷ 0x80 ∷ 0x02 ∷ 0x00 ∷ []; prints = ascii "end kept 00 latch 0 refused 3\n" }
-    ∷ record { trace = 0x04 ∷ 0x80 ∷ 0x02 ∷ 0x00 ∷ []; prints = ascii "end kept 00 latch 0 refused 1\n" }
+    ∷ record { trace = 0x05 ∷ 0x80 ∷ 0x02 ∷ 0x00 ∷ []; prints = ascii "end kept 00 latch 0 refused 1\n" }
     -- ""end" in place of either is refusal 8"
     ∷ record { trace = []; prints = ascii "end kept 00 latch 0 refused 8\n" }
     ∷ record { trace = 0x01 ∷ []; prints = ascii "end kept 00 latch 0 refused 8\n" }
     ∷ []
 
 examples : T (all traces)
-unfolding all traces figureOf command afterCode takeBit byteWp byteCame bitOf showArray showStatus fall opened codeRise rise soundStage csFall csRise sckRise sckFall live step checks event written rests sound isOpen seesRise reading fillRefusal filled powerRefusal powerUp clocked itemEvents counted codeAfter sampled risen shownAfter noted leading headOf afterEvent afterItem itemsFrom ranFrom started ran replayed closes clockedBy shownBy after codeText shownText partLine countsText selectLine endLine capitals hex decimal report
+unfolding all traces figureOf command afterCode takeBit fallWp byteWp byteCame afterFall bitOf showArray showStatus fall opened codeRise rise soundStage csFall csRise sckRise sckFall live step checks event written rests sound isOpen seesRise reading fillRefusal filled powerRefusal powerUp clocked itemEvents counted codeAfter sampled risen shownAfter noted leading headOf afterEvent afterItem itemsFrom ranFrom started ran replayed closes clockedBy shownBy after codeText shownText partLine countsText selectLine endLine capitals hex decimal report
 examples = tt

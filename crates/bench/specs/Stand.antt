@@ -1,8 +1,9 @@
 -- What stands on the bench, event by event: which select an event belongs to, and what it leaves in its record.
 -- Assumes nothing.
 use Prim.Native.Nat.{ℕ}
-use mathlib.Core.Bool.{Bool, cond, not, _&&_}
+use mathlib.Core.Bool.{Bool, false, cond, not, _&&_}
 use mathlib.Core.List.{List}
+use Rattle.stages.specs.Close.{isAsleep}
 use Rattle.pins.specs.Levels.{soLevel}
 use Rattle.pins.specs.Watch.{isOpen, seesRise}
 use Rattle.chip.specs.declared.event.Answer.{Answer}
@@ -13,7 +14,7 @@ use Rattle.bench.specs.declared.stand.Stand.{Stand}
 
 -- a chip that no event came to
 abbrev pub noEvent : State → Stand
-noEvent chip = record { chip = chip; selects = 0; told = noRise }
+noEvent chip = record { chip = chip; selects = 0; told = noRise false }
 
 -- a select opens
 abbrev pub opens : State → State → Bool
@@ -34,9 +35,10 @@ unfoldable pub shownBy : List ℕ → Stand → ℕ → List ℕ
 shownBy xs s code =
     cond (seesRise (s .chip) code) (shownAfter xs (s .told) (soLevel (s .chip))) xs
 
--- the bench after an accepted event: a select that opens is the next in number, with a record of its own
+-- the bench after an accepted event: a select that opens is the next in number, with a record of its own; "the rest of that
+-- select is ignored", where the chip slept
 unfoldable pub after : Stand → ℕ → Answer → Stand
 after s code a =
     cond (opens (s .chip) (a .state))
-    (record { chip = a .state; selects = counted (s .selects); told = noRise })
+    (record { chip = a .state; selects = counted (s .selects); told = noRise (isAsleep (s .chip .stage)) })
     (record { chip = a .state; selects = s .selects; told = noted (clockedBy s code) (a .note) })

@@ -8,6 +8,7 @@ use pins::watch::sees_rise;
 use report::record::Record;
 use report::record::SHOWN;
 use report::record::count;
+use stages::close::is_asleep;
 
 pub struct Stand {
     pub chip: State,
@@ -23,7 +24,7 @@ impl Stand {
         Stand {
             chip,
             selects: 0,
-            told: Record::new(),
+            told: Record::new(false),
         }
     }
 
@@ -58,10 +59,12 @@ impl Stand {
         let note = answer.note;
         let told = self.clocked(code, shown).note(note);
         if !is_open(chip) & is_open(next) {
+            let stage = chip.stage;
+            let ignored = is_asleep(stage);
             return Stand {
                 chip: next,
                 selects: count(self.selects),
-                told: Record::new(),
+                told: Record::new(ignored),
             };
         }
         Stand {

@@ -8,7 +8,8 @@ use Rattle.parts.specs.Commands.{command}
 use Rattle.parts.specs.Guards.{firstProtected, mayStore, mayKeep}
 use Rattle.stages.specs.Address.{afterCode, afterAddress, nextAddress}
 use Rattle.stages.specs.Bits.{takeBit, bitOf}
-use Rattle.stages.specs.Wp.{byteWp, byteCame}
+use Rattle.stages.specs.Wp.{fallWp, byteWp, byteCame}
+use Rattle.stages.specs.Close.{afterFall}
 use Rattle.stages.specs.Sound.{soundStage}
 use Rattle.select.specs.Fall.{showArray, showStatus, fall}
 use Rattle.select.specs.Rise.{opened, codeRise, upperRise, lowerRise, writeRise, keepRise, rise}
@@ -30,7 +31,7 @@ pub mod Powers
 pub mod Runs
 
 pub events-hold : T (allLeave lines && allLeave refusals && allLeave moved)
-unfolding lines refusals moved figureOf soundStage rests sound csFall csRise sckRise sckFall holdFall holdRise fall rise chip.csStayed chip.live chip.step chip.checks chip.event chip.written chip-run.next isOwn noBoard allSound checks together pieces states slice every at refusalAt refusal event driven line levels boardSo
+unfolding lines refusals moved figureOf fallWp afterFall soundStage rests sound csFall csRise sckRise sckFall holdFall holdRise fall rise chip.csStayed chip.live chip.step chip.checks chip.event chip.written chip-run.next isOwn noBoard allSound checks together pieces states slice every at refusalAt refusal event driven line levels boardSo
 events-hold = tt
 
 pub powers-hold : T (allGive powers)
@@ -38,5 +39,5 @@ unfolding powers figureOf chip-power.fillRefusal chip-power.powerRefusal chip-po
 powers-hold = tt
 
 pub runs-hold : T (allRun histories)
-unfolding clocked histories figureOf command firstProtected mayStore mayKeep afterCode afterAddress nextAddress takeBit byteWp byteCame bitOf showArray showStatus fall opened codeRise upperRise lowerRise writeRise keepRise rise soundStage csFall csRise sckRise sckFall holdFall holdRise chip.csStayed chip.live chip.step chip.checks chip.event chip.written chip-run.next rests sound chip-power.fillRefusal chip-power.powerRefusal chip-power.powerUp noBoard allParts togetherAsked allMasked powerRefusal powered powerUp isOwn allSound checks together pieces states slice every at refusalAt refusal event driven line levels boardSo
+unfolding clocked histories figureOf command firstProtected mayStore mayKeep afterCode afterAddress nextAddress takeBit fallWp byteWp byteCame afterFall bitOf showArray showStatus fall opened codeRise upperRise lowerRise writeRise keepRise rise soundStage csFall csRise sckRise sckFall holdFall holdRise chip.csStayed chip.live chip.step chip.checks chip.event chip.written chip-run.next rests sound chip-power.fillRefusal chip-power.powerRefusal chip-power.powerUp noBoard allParts togetherAsked allMasked powerRefusal powered powerUp isOwn allSound checks together pieces states slice every at refusalAt refusal event driven line levels boardSo
 runs-hold = tt

@@ -33,9 +33,9 @@ answerOf t =
     record { refusal = t .refusal; so = cond (eqb (t .refusal) 0) (soLevel (t .state)) Released; note = t .note; state = t .state }
 
 -- "Setting a pin to the level it has is accepted and has no effect."
-abbrev pub csTo : State → Bool → Moved
-csTo s true = cond (csLevel s) (silent s) (csRise s)
-csTo s false = cond (csLevel s) (csFall s) (silent s)
+abbrev pub csTo : Figure → State → Bool → Moved
+csTo f s true = cond (csLevel s) (silent s) (csRise s)
+csTo f s false = cond (csLevel s) (csFall f s) (silent s)
 
 abbrev pub sckTo : Figure → List ℕ → State → Bool → Moved
 sckTo f xs s true = cond (s .sck) (silent s) (sckRise f s)
@@ -64,7 +64,7 @@ vddTo s false = vddFall s
 -- "Pins: 0 /CS, 1 SCK, 2 SI, 3 /HOLD, 4 /WP, 5 VDD."
 unfoldable pub live : Figure → List ℕ → State → ℕ → Bool → Stepped
 live f xs s pin level =
-    cond (eqb pin 0) (accepted (csTo s level))
+    cond (eqb pin 0) (accepted (csTo f s level))
     (cond (eqb pin 1) (accepted (sckTo f xs s level))
     (cond (eqb pin 2) (accepted (siTo s level))
     (cond (eqb pin 3) (holdTo s level)

@@ -8,10 +8,11 @@ use Rattle.parts.specs.Commands.{command}
 use Rattle.parts.specs.Guards.{firstProtected, mayStore, mayKeep}
 use Rattle.stages.specs.Address.{afterCode, afterAddress, nextAddress}
 use Rattle.stages.specs.Bits.{takeBit, bitOf}
-use Rattle.stages.specs.Wp.{byteWp, byteCame}
+use Rattle.stages.specs.Wp.{fallWp, byteWp, byteCame}
+use Rattle.stages.specs.Close.{afterFall}
 use Rattle.stages.specs.Sound.{soundStage}
-use Rattle.select.specs.Fall.{showArray, showStatus, fall}
-use Rattle.select.specs.Rise.{opened, codeRise, upperRise, lowerRise, writeRise, keepRise, rise}
+use Rattle.select.specs.Fall.{showArray, showStatus, showIdent, nextIdent, fall}
+use Rattle.select.specs.Rise.{opened, codeRise, upperRise, lowerRise, dummyRise, writeRise, keepRise, rise}
 use Rattle.pins.specs.Edges.{csFall, csRise, sckRise, sckFall, holdFall, holdRise}
 use Rattle.pins.specs.Sound.{rests, sound}
 use Rattle.pins.specs.Watch.{isOpen, seesRise}
@@ -19,6 +20,7 @@ use Rattle.chip.specs.Event.{csStayed, live, step, checks, event, writte
 use Rattle.chip.specs.Examples.Run.{allHold}
 use Rattle.chip.specs.Examples.Starred.{starred}
 use Rattle.chip.specs.Examples.Rules.{ofLines, ofCodes, ofOutput, ofWriting, ofGuards, ofHold, rules}
+use Rattle.chip.specs.Examples.Part4.{ofFast, ofGuarded, ofSleep, part4}
 use Rattle.chip.specs.Examples.Calls.{allRefused, refusedEvents, allPowered, powerings, allFilled, fillings}
 use Rattle.chip.specs.Examples.Lists.{allListed, listings}
 use Rattle.chip.specs.List.{course, listRefusal, listed}
@@ -26,21 +28,26 @@ use Rattle.chip.specs.Power.{fillRefusal, filled, powerRefusal, powerUp}
 pub mod Run
 pub mod Starred
 pub mod Rules
+pub mod Part4
 pub mod Calls
 pub mod Lists
 
 pub starred-hold : T (allHold starred)
-unfolding clocked starred figureOf command firstProtected mayStore mayKeep afterCode afterAddress nextAddress takeBit byteWp byteCame bitOf showArray showStatus fall opened codeRise upperRise lowerRise writeRise keepRise rise soundStage csFall csRise sckRise sckFall holdFall holdRise csStayed live step checks event written rests sound isOpen seesRise fillRefusal filled powerRefusal powerUp
+unfolding clocked starred figureOf command firstProtected mayStore mayKeep afterCode afterAddress nextAddress takeBit fallWp byteWp byteCame afterFall bitOf showArray showStatus fall opened codeRise upperRise lowerRise writeRise keepRise rise soundStage csFall csRise sckRise sckFall holdFall holdRise csStayed live step checks event written rests sound isOpen seesRise fillRefusal filled powerRefusal powerUp
 starred-hold = tt
 
 pub rules-hold : T (allHold rules)
-unfolding clocked rules ofLines ofCodes ofOutput ofWriting ofGuards ofHold figureOf command firstProtected mayStore mayKeep afterCode afterAddress nextAddress takeBit byteWp byteCame bitOf showArray showStatus fall opened codeRise upperRise lowerRise writeRise keepRise rise soundStage csFall csRise sckRise sckFall holdFall holdRise csStayed live step checks event written rests sound isOpen seesRise fillRefusal filled powerRefusal powerUp
+unfolding clocked rules ofLines ofCodes ofOutput ofWriting ofGuards ofHold figureOf command firstProtected mayStore mayKeep afterCode afterAddress nextAddress takeBit fallWp byteWp byteCame afterFall bitOf showArray showStatus fall opened codeRise upperRise lowerRise writeRise keepRise rise soundStage csFall csRise sckRise sckFall holdFall holdRise csStayed live step checks event written rests sound isOpen seesRise fillRefusal filled powerRefusal powerUp
 rules-hold = tt
+
+pub part4-hold : T (allHold part4)
+unfolding clocked part4 ofFast ofGuarded ofSleep figureOf command firstProtected mayStore mayKeep afterCode afterAddress nextAddress takeBit fallWp byteWp byteCame afterFall bitOf showArray showStatus showIdent nextIdent fall opened codeRise upperRise lowerRise dummyRise writeRise keepRise rise soundStage csFall csRise sckRise sckFall holdFall holdRise csStayed live step checks event written rests sound isOpen seesRise fillRefusal filled powerRefusal powerUp
+part4-hold = tt
 
 pub calls-hold : T (allRefused refusedEvents && allPowered powerings && allFilled fillings)
 unfolding refusedEvents powerings fillings figureOf soundStage live step checks event rests sound fillRefusal filled powerRefusal powerUp
 calls-hold = tt
 
 pub lists-hold : T (allListed listings)
-unfolding listings figureOf takeBit byteWp byteCame bitOf mayStore firstProtected nextAddress showArray fall opened codeRise writeRise rise soundStage csFall csRise sckRise sckFall live step checks event written rests sound course listRefusal listed
+unfolding listings figureOf takeBit fallWp byteWp byteCame afterFall bitOf mayStore firstProtected nextAddress showArray fall opened codeRise writeRise rise soundStage csFall csRise sckRise sckFall live step checks event written rests sound course listRefusal listed
 lists-hold = tt

@@ -38,7 +38,7 @@ module _ (s : State) where
   live-told : (f : Figure) (xs : List ℕ) (pin : ℕ) (level : Bool) → Told (live f xs s pin level)
   unfolding live
   live-told f xs pin level =
-      choose Told (eqb pin 0) (accept (csTo s level))
+      choose Told (eqb pin 0) (accept (csTo f s level))
       (choose Told (eqb pin 1) (accept (sckTo f xs s level))
       (choose Told (eqb pin 2) (accept (siTo s level))
       (choose Told (eqb pin 3) (hold-told level)

@@ -43,11 +43,11 @@ module _ (s : State) where
   abbrev Steps : Stepped → Type 0
   Steps t = Same (t .state)
 
-  cs-part : (level : Bool) → Moves (csTo s level)
+  cs-part : (f : Figure) (level : Bool) → Moves (csTo f s level)
   unfolding csFall csRise
-  cs-part true =
+  cs-part f true =
       choose Moves (csLevel s) refl (choose Moves (holdHigh (s .hold)) (choose Moves (s .latch && drops (s .stage)) refl refl) refl)
-  cs-part false = choose Moves (csLevel s) (choose Same (holdHigh (s .hold)) refl refl) refl
+  cs-part f false = choose Moves (csLevel s) (choose Same (holdHigh (s .hold)) refl refl) refl
 
   sck-part : (f : Figure) (xs : List ℕ) (level : Bool) → Moves (sckTo f xs s level)
   unfolding sckRise sckFall
@@ -66,7 +66,7 @@ module _ (s : State) where
   live-part : (f : Figure) (xs : List ℕ) (pin : ℕ) (level : Bool) → Steps (live f xs s pin level)
   unfolding live
   live-part f xs pin level =
-      choose Steps (eqb pin 0) (cs-part level)
+      choose Steps (eqb pin 0) (cs-part f level)
       (choose Steps (eqb pin 1) (sck-part f xs level)
       (choose Steps (eqb pin 2) refl
       (choose Steps (eqb pin 3) (hold-part level)

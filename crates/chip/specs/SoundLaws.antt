@@ -25,7 +25,7 @@ abbrev Answers : Stepped → Type 0
 Answers t = Sound (t .state)
 
 module _ (s : State) (h : sound s ≡ true) (on : s .power ≡ true) where
-  cs-to : (level : Bool) → Keeps (csTo s level)
+  cs-to : (level : Bool) → Keeps (csTo (figureOf (s .part)) s level)
   cs-to true = choose Keeps (csLevel s) h (cs-rise s h on)
   cs-to false = choose Keeps (csLevel s) (cs-fall s h on) h
 

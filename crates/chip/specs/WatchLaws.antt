@@ -10,10 +10,10 @@ use lib.Dec.{eqb}
 use Rattle.parts.specs.Figures.{figureOf}
 use Rattle.laws.specs.TestLaws.{left, right, choose}
 use Rattle.parts.specs.declared.figures.Figure.{Figure}
-use Rattle.stages.specs.Bits.{noBits}
-use Rattle.stages.specs.Close.{isClosed, drops}
+use Rattle.stages.specs.Close.{isClosed, drops, afterClose, afterFall}
 use Rattle.stages.specs.declared.stage.Stage.{Stage}
-use Rattle.stages.specs.declared.stage.Stage.the-variants.{Closed, Code}
+use Rattle.stages.specs.declared.stage.Stage.the-variants.{Closed, Code, Upper, Lower, Ready, ArrayOut, StatusOut, Writing, Keeping, Over, Dummy, IdentOut, Asleep}
+use Rattle.select.specs.declared.rise.Seen.{Seen}
 use Rattle.select.specs.Rise.{rise}
 use Rattle.pins.specs.Edges.{silent, withSck, seenBy, rose, shown, csFall, csRise, sckRise, sckFall, holdFall, holdRise}
 use Rattle.pins.specs.Levels.{holdHigh, csLevel}
@@ -25,12 +25,30 @@ use Rattle.chip.specs.Event.{accepted, csTo, sckTo, holdTo, csStayed, vd
 use Rattle.chip.specs.EventLaws.{accepted-steps}
 use Rattle.chip.specs.declared.step.Stepped.{Stepped}
 
--- the stage after an event that takes no bit: as it was, or a select opened or closed, or a fall of SCK
+-- the stage after an event that takes no bit: as it was, or a select opened or closed, or the supply was cut, or a fall of SCK
 pub data Unclocked (f : Figure) (xs : List ℕ) (s : State) : Stage → Type 0 where
   same : Unclocked f xs s (s .stage)
-  opens : Unclocked f xs s (Code noBits)
-  closes : Unclocked f xs s Closed
+  opens : Unclocked f xs s (afterFall f (s .wp) (s .stage))
+  closes : Unclocked f xs s (afterClose (s .stage))
+  cuts : Unclocked f xs s Closed
   falls : Unclocked f xs s (shown f xs s)
+
+-- with no select open a rise of SCK leaves the stage
+rise-closed : (f : Figure) (seen : Seen) (stage : Stage) → isClosed stage ≡ true → rise f seen stage .stage ≡ stage
+unfolding rise
+rise-closed f seen Closed h = refl
+rise-closed f seen (Code wp shift) h = cc
+rise-closed f seen (Upper purpose shift) h = cc
+rise-closed f seen (Lower purpose shift page) h = cc
+rise-closed f seen (Ready what at) h = cc
+rise-closed f seen (ArrayOut level bit at) h = cc
+rise-closed f seen (StatusOut level bit) h = cc
+rise-closed f seen (Writing came shift at) h = cc
+rise-closed f seen (Keeping wp shift) h = cc
+rise-closed f seen (Over end) h = cc
+rise-closed f seen (Dummy shift at) h = cc
+rise-closed f seen (IdentOut level bit at) h = cc
+rise-closed f seen Asleep h = refl
 
 -- SCK was low and is high in the next state, with /HOLD high and a select open
 abbrev pub seenRise : State → State → Bool
@@ -88,7 +106,7 @@ module _ (f : Figure) (xs : List ℕ) (s : State) where
   stays : Passes s
   stays = (still (s .sck), same)
 
-  cs-passes : (level : Bool) → Moves (csTo s level)
+  cs-passes : (level : Bool) → Moves (csTo f s level)
   unfolding csFall csRise
   cs-passes true =
       choose Moves (csLevel s) stays
@@ -115,7 +133,7 @@ module _ (f : Figure) (xs : List ℕ) (s : State) where
 
   vdd-passes : (level : Bool) → Moves (vddTo s level)
   vdd-passes true = stays
-  vdd-passes false = (never (not (s .sck)), closes)
+  vdd-passes false = (never (not (s .sck)), cuts)
 
   others-pass : (code : ℕ) → eqb code 3 ≡ false → Steps (step f xs s code)
   unfolding step live
@@ -127,7 +145,7 @@ module _ (f : Figure) (xs : List ℕ) (s : State) where
       (choose Steps (eqb (code / 2) 3) (hold-passes level)
       (choose Steps (eqb (code / 2) 4) (still (s .sck), same)
       (vdd-passes level))))))
-      (choose Moves (eqb code 11) (never (not (s .sck)), closes) stays)
+      (choose Moves (eqb code 11) (never (not (s .sck)), cuts) stays)
     where
       level : Bool
       level = eqb (code % 2) 1
@@ -181,7 +199,7 @@ module _ (f : Figure) (xs : List ℕ) (s : State) where
       three false k h d e n = same
       three true true h d e n = same
       three true false false d e n = same
-      three true false true true e n = rw (closed-is (s .stage) e) closes
+      three true false true true e n = rw (rise-closed f (seenBy s) (s .stage) e) same
       three true false true false e n = absurd (eqb-false 1 0 refl cc)
 
       go : (t : Bool) → eqb code 3 ≡ t → seesRise s code ≡ false → Unclocked f xs s (step f xs s code .state .stage)

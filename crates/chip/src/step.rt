@@ -39,14 +39,14 @@ pub(crate) fn refuse(refusal: u8, state: State) -> Stepped
 }
 
 // Each pin set to a level. "Setting a pin to the level it has is accepted and has no effect."
-fn cs_to(state: State, level: bool) -> Moved
-    ensures { λ r. ⌜ r ≡ csTo state level ⌝ }
+fn cs_to(state: State, f: Figure, level: bool) -> Moved
+    ensures { λ r. ⌜ r ≡ csTo f state level ⌝ }
 {
     let cs = state.cs();
     if level {
         if cs { state.silent() } else { state.cs_rise() }
     } else {
-        if cs { state.cs_fall() } else { state.silent() }
+        if cs { state.cs_fall(f) } else { state.silent() }
     }
 }
 
@@ -152,7 +152,7 @@ fn live(f: Figure, state: State, array: &[u8], pin: u8, level: bool) -> Stepped
     ensures { λ r. ⌜ r ≡ live f (now (array .entry)) state pin level ⌝ }
 {
     match pin {
-        0 => accept(cs_to(state, level)),
+        0 => accept(cs_to(state, f, level)),
         1 => accept(sck_to(state, f, array, level)),
         2 => accept(si_to(state, level)),
         3 => hold_to(state, level),

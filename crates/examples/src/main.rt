@@ -17,6 +17,7 @@ use libc::STDOUT_FILENO;
 use pins::state::State;
 use select::notes::Level;
 use select::notes::Note;
+use stages::stage::Line;
 use stages::stage::Stage;
 
 // The line's letter, 0 at its start; the number so far; what is set for the calls; and the chip.
@@ -147,6 +148,7 @@ fn move_chip(desk: Desk, array: &mut [u8], n: u64) -> State {
         b'e' => tell_event(chip, array, n),
         b'S' => State {
             stage: Stage::Code {
+                wp: Line::Up,
                 shift: (n % 65536) as u16,
             },
             ..chip

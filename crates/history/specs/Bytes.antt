@@ -7,10 +7,10 @@ use lib.Dec.{eqb}
 use Rattle.parts.specs.Commands.{command}
 use Rattle.parts.specs.declared.figures.Figure.{Figure}
 use Rattle.parts.specs.declared.commands.Command.{Command}
-use Rattle.parts.specs.declared.commands.Command.the-variants.{Wren, Wrdi, Rdsr, Wrsr, Read, Write, Other}
+use Rattle.parts.specs.declared.commands.Command.the-variants.{Wren, Wrdi, Rdsr, Wrsr, Read, Fstrd, Write, Rdid, Sleep, Other}
 use Rattle.history.specs.Wire.{Bit}
 
--- a whole byte: its value, and the level of /WP at its first bit
+-- a whole byte: its value, and the level of /WP that it came with
 pub record Byte : Type 0 where
   pub value : ℕ
   pub wp : Bool
@@ -47,24 +47,33 @@ number high (b ∷ bs) = number (high * 256 + b .value) bs
 unfoldable pub address : Figure → ℕ → List Byte → ℕ
 address f code bs = number (topBit f code) (take (f .«address_bytes») bs) % f .size
 
--- what a transfer says: the latch's new value (WREN, WRDI), memory bytes from an address on (WRITE), status bytes (WRSR),
--- or nothing that could change anything. "Other op-codes and later bits that no rule names do nothing".
+-- /W's "level at the fall of /S counts for the whole select" (document 02, Wish 3): where the row says so, WRSR's byte came with
+-- that level. WRITE's is left: there "/W guards the status byte only".
+abbrev pub wrsrByte : Figure → Bool → Byte → Byte
+wrsrByte f fell b = record { value = b .value; wp = cond (f .«wp_at_fall») fell (b .wp) }
+
+-- what a transfer says: the latch's new value (WREN, WRDI), memory bytes from an address on (WRITE), status bytes (WRSR), sleep
+-- (SLEEP), or nothing that could change anything. "Other op-codes and later bits that no rule names do nothing".
 pub data Reading : Type 0 where
   latches : Bool → Reading
   stores : ℕ → List Byte → Reading
   keeps : List Byte → Reading
+  sleeps : Reading
   idles : Reading
 
-unfoldable pub readAs : Figure → ℕ → List Byte → Command → Reading
-readAs f code bs Wren = latches true
-readAs f code bs Wrdi = latches false
-readAs f code bs Rdsr = idles
-readAs f code bs Wrsr = keeps bs
-readAs f code bs Read = idles
-readAs f code bs Write = stores (address f code bs) (drop (f .«address_bytes») bs)
-readAs f code bs Other = idles
+unfoldable pub readAs : Figure → Bool → ℕ → List Byte → Command → Reading
+readAs f fell code bs Wren = latches true
+readAs f fell code bs Wrdi = latches false
+readAs f fell code bs Rdsr = idles
+readAs f fell code bs Wrsr = keeps (map (wrsrByte f fell) bs)
+readAs f fell code bs Read = idles
+readAs f fell code bs Fstrd = idles
+readAs f fell code bs Write = stores (address f code bs) (drop (f .«address_bytes») bs)
+readAs f fell code bs Rdid = idles
+readAs f fell code bs Sleep = sleeps
+readAs f fell code bs Other = idles
 
--- "The first eight bits are the op-code"
-unfoldable pub readTransfer : Figure → List Byte → Reading
-readTransfer f [] = idles
-readTransfer f (op ∷ bs) = readAs f (op .value) bs (command (f .ops) (op .value))
+-- "The first eight bits are the op-code". `fell` is the level of /WP at the fall of /CS.
+unfoldable pub readTransfer : Figure → Bool → List Byte → Reading
+readTransfer f fell [] = idles
+readTransfer f fell (op ∷ bs) = readAs f fell (op .value) bs (command (f .ops) (op .value))

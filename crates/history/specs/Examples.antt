@@ -1,5 +1,5 @@
--- The chip's own examples (its Examples), the starred ones and those of each rule, told by the history: the two are held to
--- the same events and the same outcomes. One more for what those leave open. Computed; assumes nothing.
+-- The chip's own examples (its Examples), the starred ones, those of each rule and of part 4, told by the history: the two are
+-- held to the same events and the same outcomes. One more for what those leave open. Computed; assumes nothing.
 use Prim.Native.Nat.{ℕ}
 use mathlib.Core.Bool.{Bool, true, false, _&&_}
 use mathlib.Core.List.{List, [], _∷_, _++_}
@@ -13,10 +13,11 @@ use Rattle.select.specs.declared.notes.Note.the-variants.{Latch, Stored, KeptSe
 use Rattle.chip.specs.Examples.Run.{Example, writes, idle, transfer, wren, same, blank, withStored}
 use Rattle.chip.specs.Examples.Starred.{starred}
 use Rattle.chip.specs.Examples.Rules.{ofLines, ofCodes, ofOutput, ofWriting, ofGuards, ofHold, rules}
+use Rattle.chip.specs.Examples.Part4.{ofGuarded, ofSleep}
 use Rattle.history.specs.Wire.{put, refusal, afterOne, act, acts}
 use Rattle.history.specs.Transfers.{transferFrom, spans}
 use Rattle.history.specs.Bytes.{bitsValue, eights, wholeBytes, topBit, number, address, readAs, readTransfer}
-use Rattle.history.specs.History.{storeIf, overlay, keepIf, keepFirst, effect, atLeastOne, latchDrops, spanned, inOrder, history}
+use Rattle.history.specs.History.{storeIf, overlay, keepIf, keepFirst, effect, atLeastOne, latchDrops, spanned, inOrder, isSleep, obeyed, history}
 
 -- the latch, the kept bits and every byte of the array
 abbrev numbers : Bool → ℕ → List ℕ → List ℕ
@@ -40,6 +41,6 @@ blocksAfter =
     (Latch true ∷ Stored 0x000 0x55 ∷ Latch false ∷ Latch true ∷ KeptSet 0x0C ∷ Latch false ∷ [])
     (idle 1 0x0C false false)
 
-pub examples : T (toldAll (blocksAfter ∷ starred ++ rules))
-unfolding clocked starred rules ofLines ofCodes ofOutput ofWriting ofGuards ofHold history inOrder spanned latchDrops atLeastOne effect keepFirst keepIf overlay storeIf readTransfer readAs address number topBit wholeBytes eights bitsValue transferFrom spans acts act afterOne refusal put figureOf command firstProtected mayStore mayKeep
+pub examples : T (toldAll (blocksAfter ∷ starred ++ rules ++ ofGuarded ++ ofSleep))
+unfolding clocked starred rules ofLines ofCodes ofOutput ofWriting ofGuards ofHold ofGuarded ofSleep history obeyed isSleep inOrder spanned latchDrops atLeastOne effect keepFirst keepIf overlay storeIf readTransfer readAs address number topBit wholeBytes eights bitsValue transferFrom spans acts act afterOne refusal put figureOf command firstProtected mayStore mayKeep
 examples = tt

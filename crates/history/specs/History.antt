@@ -12,8 +12,8 @@ use Rattle.parts.specs.declared.figures.Figure.{Figure}
 use Rattle.parts.specs.declared.guards.Verdict.{Verdict}
 use Rattle.parts.specs.declared.guards.Verdict.the-variants.{Allowed, HeldBack}
 use Rattle.history.specs.Wire.{rest, acts}
-use Rattle.history.specs.Transfers.{Span, transfer, cut, spans}
-use Rattle.history.specs.Bytes.{Byte, wholeBytes, Reading, latches, stores, keeps, idles, readTransfer}
+use Rattle.history.specs.Transfers.{Transfer, Span, transfer, cut, spans}
+use Rattle.history.specs.Bytes.{Byte, wholeBytes, Reading, latches, stores, keeps, sleeps, idles, readTransfer}
 
 -- what the history speaks of
 pub record World : Type 0 where
@@ -52,6 +52,7 @@ unfoldable pub effect : Figure → World → Reading → World
 effect f w (latches on) = withLatch w on
 effect f w (stores start bs) = overlay f start 0 w bs
 effect f w (keeps bs) = keepFirst f w bs
+effect f w sleeps = w
 effect f w idles = w
 
 -- "The latch drops at the rise of /CS that ends a WRITE or WRSR with at least one whole data byte, held back or not (H)."
@@ -63,22 +64,46 @@ unfoldable pub latchDrops : Reading → Bool
 latchDrops (latches on) = false
 latchDrops (stores start bs) = atLeastOne bs
 latchDrops (keeps bs) = atLeastOne bs
+latchDrops sleeps = false
 latchDrops idles = false
 
 -- a transfer, as far as it came
+abbrev pub reading : Figure → Bool → Transfer → Reading
+reading f fell t = readTransfer f fell (wholeBytes (t .bits))
+
 abbrev pub transferred : Figure → World → Reading → Bool → World
 transferred f w r closed = cond (closed && latchDrops r) (withLatch (effect f w r) false) (effect f w r)
 
 -- "cut the supply": "The latch is off"
 unfoldable pub spanned : Figure → World → Span → World
-spanned f w (transfer t) = transferred f w (readTransfer f (wholeBytes (t .bits))) (t .closed)
+spanned f w (transfer fell t) = transferred f w (reading f fell t) (t .closed)
 spanned f w cut = withLatch w false
 
 unfoldable pub inOrder : Figure → World → List Span → World
 inOrder f w [] = w
 inOrder f w (span ∷ more) = inOrder f (spanned f w span) more
 
+-- "SLEEP B9h takes effect at the rise of /S" (document 02, Wish 3)
+unfoldable pub isSleep : Reading → Bool
+isSleep (latches on) = false
+isSleep (stores start bs) = false
+isSleep (keeps bs) = false
+isSleep sleeps = true
+isSleep idles = false
+
+abbrev pub sleepsAfter : Figure → Bool → Transfer → Bool
+sleepsAfter f fell t = t .closed && isSleep (reading f fell t)
+
+-- "the next fall of /S wakes the chip and the rest of that select is ignored"; "a cut ends sleep". The transfers that are not
+-- ignored, and the cuts, by whether a SLEEP came right before.
+unfoldable pub obeyed : Figure → Bool → List Span → List Span
+obeyed f asleep [] = []
+obeyed f asleep (cut ∷ more) = cut ∷ obeyed f false more
+obeyed f true (transfer fell t ∷ more) = obeyed f false more
+obeyed f false (transfer fell t ∷ more) = transfer fell t ∷ obeyed f (sleepsAfter f fell t) more
+
 -- "Take any list of events from power-up": the part, the kept bits and the array that stood then, and the list
 unfoldable pub history : ℕ → ℕ → List ℕ → List ℕ → World
 history part kept array codes =
-    inOrder (figureOf part) (record { latch = false; kept = kept; array = array }) (spans (acts (rest true) codes))
+    inOrder (figureOf part) (record { latch = false; kept = kept; array = array })
+    (obeyed (figureOf part) false (spans (acts (rest true) codes)))

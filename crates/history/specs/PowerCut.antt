@@ -2,7 +2,7 @@
 -- list of events alone, and in the chip's Run, which runs its own definition over it. How it is proved is in Laws.
 -- Assumes nothing.
 use Prim.Native.Nat.{ℕ}
-use mathlib.Core.Bool.{true}
+use mathlib.Core.Bool.{true, false}
 use mathlib.Core.List.{List, [], _∷_, _++_}
 use mathlib.Core.Path.{_≡_, ap, _∙_}
 use lib.ListN.{take}
@@ -17,13 +17,13 @@ use Rattle.history.specs.Wire.{rest, refusal, afterAll}
 use Rattle.history.specs.Run.{worldOf}
 use Rattle.history.specs.Laws.Moments.{Reached, reached-from, world-told, run-append, cut-leaves, refusal-as}
 use Rattle.history.specs.Laws.Place.{outside}
-use Rattle.history.specs.Laws.Step.{asleep}
+use Rattle.history.specs.Laws.Step.{unlatched}
 
 module _ (part kept : ℕ) (array codes : List ℕ) (accepted : powerUp part kept array .refusal ≡ 0) where
   starts : fromPowerUp part kept array ≡ poweredUp part kept array
   starts = ap (λ (s : State). record { state = s; array = array }) (power-state part kept array accepted)
 
-  reached : (sent : List ℕ) → Reached part (rest true) outside (asleep kept array) (poweredUp part kept array) sent
+  reached : (sent : List ℕ) → Reached part (rest true) (outside false) (unlatched kept array) (poweredUp part kept array) sent
   reached = reached-from part kept array (power-one part kept array accepted) (power-masked part kept array accepted) (power-fits part kept array accepted)
 
   moment : (sent : List ℕ) → worldOf (run (fromPowerUp part kept array) sent) ≡ history part kept array sent

@@ -11,20 +11,20 @@ pub record Transfer : Type 0 where
 -- the transfer that was opened right before these acts
 unfoldable pub transferFrom : List Act → Transfer
 transferFrom [] = record { bits = []; closed = false }
-transferFrom (opens ∷ later) = record { bits = []; closed = false }
+transferFrom (opens wp ∷ later) = record { bits = []; closed = false }
 transferFrom (closes ∷ later) = record { bits = []; closed = true }
 transferFrom (takes b ∷ later) = record { bits = b ∷ transferFrom later .bits; closed = transferFrom later .closed }
 transferFrom (cuts ∷ later) = record { bits = []; closed = false }
 transferFrom (passes ∷ later) = transferFrom later
 
--- the transfers and the power cuts, in order
+-- the transfers, each with the level of /WP at the fall of /CS that opened it, and the power cuts, in order
 pub data Span : Type 0 where
-  transfer : Transfer → Span
+  transfer : Bool → Transfer → Span
   cut : Span
 
 unfoldable pub spans : List Act → List Span
 spans [] = []
-spans (opens ∷ later) = transfer (transferFrom later) ∷ spans later
+spans (opens wp ∷ later) = transfer wp (transferFrom later) ∷ spans later
 spans (closes ∷ later) = spans later
 spans (takes b ∷ later) = spans later
 spans (cuts ∷ later) = cut ∷ spans later

@@ -78,9 +78,10 @@ pub record Bit : Type 0 where
   pub si : Bool
   pub wp : Bool
 
--- what an event is to the select. With /HOLD high what is seen of /CS is its level, so a select is open where /CS is low.
+-- what an event is to the select: the fall of /CS that opens one has the level of /WP then. With /HOLD high what is seen of /CS
+-- is its level, so a select is open where /CS is low.
 pub data Act : Type 0 where
-  opens : Act
+  opens : Bool → Act
   closes : Act
   takes : Bit → Act
   cuts : Act
@@ -92,7 +93,7 @@ unfoldable pub act : Wire → ℕ → Act
 act l code =
     cond (not (l .power)) passes
     (cond (eqb code 10) cuts
-    (cond (eqb code 0 && l .cs && l .hold) opens
+    (cond (eqb code 0 && l .cs && l .hold) (opens (l .wp))
     (cond (eqb code 1 && not (l .cs) && l .hold) closes
     (cond (eqb code 3 && not (l .sck) && l .hold && not (l .cs)) (takes (record { si = l .si; wp = l .wp }))
     passes))))

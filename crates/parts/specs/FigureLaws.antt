@@ -7,7 +7,7 @@ use native.Mathlib.Omega.{arith}
 use borrow.Author.Tests.{eqb-false, leb-true, ltb-true}
 use lib.Dec.{leb, ltb, lit<, lit≤}
 use lib.ListN.{getD, length}
-use Rattle.parts.specs.Figures.{none, fm25l04, fm25c160, rows, parts, figureOf, isPart}
+use Rattle.parts.specs.Figures.{none, fm25l04, fm25c160, fm25v01, rows, parts, figureOf, isPart}
 use Rattle.laws.specs.TestLaws.{left, right}
 use Rattle.parts.specs.declared.figures.Figure.{Figure}
 
@@ -44,8 +44,12 @@ like-part-3 : Fair fm25c160
 like-part-3 =
     record { mask = lit< tt; pages = refl; top = lit≤ tt; bits = 3; low = refl; header = two refl refl }
 
+like-part-4 : Fair fm25v01
+like-part-4 =
+    record { mask = lit< tt; pages = refl; top = lit≤ tt; bits = 6; low = refl; header = two refl refl }
+
 all-fair : AllFair rows
-all-fair = also like-part-1 (also like-part-1 (also like-part-3 done))
+all-fair = also like-part-1 (also like-part-1 (also like-part-3 (also like-part-4 done)))
 
 -- a row that is there
 fair-at : (fs : List Figure) → AllFair fs → (k : ℕ) → k < length fs → Fair (getD fs k none)
@@ -73,7 +77,7 @@ row test (f ∷ fs) h n (suc k) = row test fs (right (test f) (every test fs) h)
 
 -- LARGEST (src/figures.rt). No part's array is larger; a number that is no part's has none.
 abbrev pub most : ℕ
-most = 2048
+most = 16384
 
 pub largest : (part : ℕ) → figureOf part .size ≤ most
 unfolding figureOf every

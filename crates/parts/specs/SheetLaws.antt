@@ -1,10 +1,9 @@
 -- The protected ranges as the sheets print them: the rule is held against the papers, not only against itself. Assumes nothing.
-use Prim.Native.Nat.{ℕ, _-_}
+use Prim.Native.Nat.{ℕ}
 use mathlib.Core.Path.{_≡_, refl}
-use mathlib.Core.Bool.{true, false}
 use mathlib.Core.List.{List, [], _∷_, map}
 use Rattle.parts.specs.Figures.{rows}
-use Rattle.parts.specs.Guards.{guarded, firstProtected}
+use Rattle.parts.specs.Guards.{firstProtected}
 use Rattle.parts.specs.declared.figures.Figure.{Figure}
 
 -- where the range of a status byte of 00h, 04h, 08h and 0Ch begins: BP1 and BP0 are 00, 01, 10 and 11
@@ -20,12 +19,10 @@ printed =
     ∷ (0x200 ∷ 0x180 ∷ 0x100 ∷ 0x000 ∷ [])
     -- 003: "None", "600h to 7FFh (upper ¼)", "400h to 7FFh (upper ½)", "000h to 7FFh (all)"
     ∷ (0x800 ∷ 0x600 ∷ 0x400 ∷ 0x000 ∷ [])
+    -- 004: "None", "3000h to 3FFFh (upper ¼)", "2000h to 3FFFh (upper ½)", "0000h to 3FFFh (all)"
+    ∷ (0x4000 ∷ 0x3000 ∷ 0x2000 ∷ 0x0000 ∷ [])
     ∷ []
 
 pub as-printed : map begins rows ≡ printed
 unfolding firstProtected
 as-printed = refl
-
--- 004, whose part has no row yet: "3000h to 3FFFh (upper ¼)", "2000h to 3FFFh (upper ½)"
-pub at-16384 : map (λ n. 0x4000 - n) (guarded false true 0x4000 ∷ guarded true false 0x4000 ∷ []) ≡ (0x3000 ∷ 0x2000 ∷ [])
-at-16384 = refl

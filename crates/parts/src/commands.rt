@@ -8,7 +8,10 @@ pub enum Command {
     Rdsr,
     Wrsr,
     Read,
+    Fstrd,
     Write,
+    Rdid,
+    Sleep,
     // Does nothing.
     Other,
 }
@@ -20,7 +23,7 @@ pub struct Op {
 }
 
 // How many op-codes a row has room for; the rest is filled with ones that do nothing.
-pub const OPS: usize = 8;
+pub const OPS: usize = 9;
 
 // The command that an op-code names, by a part's list.
 pub fn decode(ops: [Op; OPS], code: u8) -> Command

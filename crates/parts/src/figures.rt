@@ -5,6 +5,9 @@ use crate::commands::Command;
 use crate::commands::OPS;
 use crate::commands::Op;
 
+// How many identification bytes there are; zeros where a part has no RDID.
+pub const IDENT: usize = 9;
+
 pub struct Figure {
     // Bytes of the array.
     pub size: usize,
@@ -24,6 +27,12 @@ pub struct Figure {
     // The block bits BP0 and BP1 of the status byte.
     pub bp0: u8,
     pub bp1: u8,
+    // Dummy bytes that follow FSTRD's address: 1 or none.
+    pub dummy: u8,
+    // Whether /WP at the fall of /CS counts for a status byte, and not at the byte's first rise.
+    pub wp_at_fall: bool,
+    // The identification bytes that RDID shows.
+    pub ident: [u8; IDENT],
     // Its op-codes with their commands.
     pub ops: [Op; OPS],
 }
@@ -60,6 +69,11 @@ const READ_TOP: Op = Op {
     command: Command::Read,
 };
 
+const FSTRD: Op = Op {
+    code: 0x0B,
+    command: Command::Fstrd,
+};
+
 const WRITE: Op = Op {
     code: 0x02,
     command: Command::Write,
@@ -68,6 +82,16 @@ const WRITE: Op = Op {
 const WRITE_TOP: Op = Op {
     code: 0x0A,
     command: Command::Write,
+};
+
+const SLEEP: Op = Op {
+    code: 0xB9,
+    command: Command::Sleep,
+};
+
+const RDID: Op = Op {
+    code: 0x9F,
+    command: Command::Rdid,
 };
 
 const FILLER: Op = Op {
@@ -86,7 +110,20 @@ const FM25L04: Figure = Figure {
     enable: 0,
     bp0: 0x04,
     bp1: 0x08,
-    ops: [WREN, WRDI, RDSR, WRSR, READ, READ_TOP, WRITE, WRITE_TOP],
+    dummy: 0,
+    wp_at_fall: false,
+    ident: [0; IDENT],
+    ops: [
+        WREN,
+        WRDI,
+        RDSR,
+        WRSR,
+        READ,
+        READ_TOP,
+        WRITE,
+        WRITE_TOP,
+        FILLER,
+    ],
 };
 
 // "Parts 1 and 2 behave alike."
@@ -103,19 +140,39 @@ const FM25C160: Figure = Figure {
     enable: 0x80,
     bp0: 0x04,
     bp1: 0x08,
-    ops: [WREN, WRDI, RDSR, WRSR, READ, WRITE, FILLER, FILLER],
+    dummy: 0,
+    wp_at_fall: false,
+    ident: [0; IDENT],
+    ops: [WREN, WRDI, RDSR, WRSR, READ, WRITE, FILLER, FILLER, FILLER],
+};
+
+const FM25V01: Figure = Figure {
+    size: 16384,
+    kept: 0x8C,
+    latch: 0x02,
+    address_bytes: 2,
+    upper: 0x3F,
+    top: 0x00,
+    guards_array: false,
+    enable: 0x80,
+    bp0: 0x04,
+    bp1: 0x08,
+    dummy: 1,
+    wp_at_fall: true,
+    ident: [0x7F, 0x7F, 0x7F, 0x7F, 0x7F, 0x7F, 0xC2, 0x21, 0x00],
+    ops: [WREN, WRDI, RDSR, WRSR, READ, FSTRD, WRITE, SLEEP, RDID],
 };
 
 // A number that is no part's: no rule reads its row, since 1 or 4 is given before.
 const NO_PART: Figure = FM25L04;
 
 // How many rows there are; row 0 is no part's.
-const ROWS: usize = 4;
+const ROWS: usize = 5;
 
-pub const PARTS: [Figure; ROWS] = [NO_PART, FM25L04, FM25L04B, FM25C160];
+pub const PARTS: [Figure; ROWS] = [NO_PART, FM25L04, FM25L04B, FM25C160, FM25V01];
 
 // The largest array's bytes, for whoever lends one to a part that is not known yet (`largest`, specs/FigureLaws).
-pub const LARGEST: usize = 2048;
+pub const LARGEST: usize = 16384;
 
 // Whether there is a part of this number.
 pub fn is_part(part: u64) -> bool
@@ -132,6 +189,7 @@ pub fn figure_of(part: u64) -> Figure
         1 => FM25L04,
         2 => FM25L04B,
         3 => FM25C160,
+        4 => FM25V01,
         _ => NO_PART,
     }
 }

@@ -4,15 +4,13 @@ use Prim.Native.Nat.{ℕ}
 use mathlib.Core.Bool.{Bool, true, false, cond, _&&_}
 use mathlib.Core.List.{List}
 use Rattle.parts.specs.declared.figures.Figure.{Figure}
-use Rattle.stages.specs.Bits.{noBits}
-use Rattle.stages.specs.Close.{drops}
+use Rattle.stages.specs.Close.{drops, afterClose, afterFall}
 use Rattle.select.specs.Fall.{fall, statusByte}
 use Rattle.select.specs.Rise.{rise}
 use Rattle.select.specs.declared.notes.Note.the-variants.{Nothing, Latch, PowerLost}
 use Rattle.select.specs.declared.rise.Seen.{Seen}
 use Rattle.select.specs.declared.rise.Risen.{Risen}
 use Rattle.stages.specs.declared.stage.Stage.{Stage}
-use Rattle.stages.specs.declared.stage.Stage.the-variants.{Closed, Code}
 use Rattle.pins.specs.Levels.{atRest, holdHigh, csLevel}
 use Rattle.pins.specs.declared.hold.Hold.{Hold}
 use Rattle.pins.specs.declared.hold.Hold.the-variants.{High, LowCsLow, LowCsHigh}
@@ -53,16 +51,18 @@ withStage s latch stage = with s (s .sck) (s .si) (s .wp) (s .hold) latch stage
 abbrev pub silent : State → Moved
 silent s = record { state = s; note = Nothing }
 
--- "A seen fall of /CS opens a select", "SCK may stand high or low at the fall (modes 0 and 3)."
-unfoldable pub csFall : State → Moved
-csFall s = silent (cond (holdHigh (s .hold)) (withStage s (s .latch) (Code noBits)) (withHold s LowCsLow))
+-- "A seen fall of /CS opens a select", "SCK may stand high or low at the fall (modes 0 and 3)." "the next fall of /S wakes the
+--  chip"
+unfoldable pub csFall : Figure → State → Moved
+csFall f s = silent (cond (holdHigh (s .hold)) (withStage s (s .latch) (afterFall f (s .wp) (s .stage))) (withHold s LowCsLow))
 
--- "a seen rise closes it and releases SO". "The note then is latch 0 if the latch was set, else nothing."
+-- "a seen rise closes it and releases SO". "The note then is latch 0 if the latch was set, else nothing." "SLEEP B9h takes effect
+--  at the rise of /S"
 abbrev pub closed : State → Moved
 closed s =
     cond (s .latch && drops (s .stage))
-    (record { state = withStage s false Closed; note = Latch false })
-    (silent (withStage s (s .latch) Closed))
+    (record { state = withStage s false (afterClose (s .stage)); note = Latch false })
+    (silent (withStage s (s .latch) (afterClose (s .stage))))
 
 unfoldable pub csRise : State → Moved
 csRise s = cond (holdHigh (s .hold)) (closed s) (silent (withHold s LowCsHigh))

@@ -2,14 +2,19 @@
 -- soundness as it is; the clocks keep it by the laws of a select. Assumes nothing.
 use Prim.Native.Nat.{ℕ}
 use mathlib.Core.Path.{_≡_, refl, ap, _∙_}
-use mathlib.Core.Bool.{Bool, true, false, not, _&&_, _||_}
+use mathlib.Core.Bool.{Bool, true, false, cond, not, _&&_, _||_}
 use mathlib.Core.List.{List}
 use borrow.Author.Tests.{eqb-true, eq-eqb}
 use Rattle.parts.specs.FigureLaws.{fair}
 use Rattle.parts.specs.Figures.{figureOf, isPart, inMask}
 use Rattle.parts.specs.declared.figures.Figure.{Figure}
 use Rattle.laws.specs.TestLaws.{both, left, right, choose}
-use Rattle.stages.specs.Close.{isClosed, drops}
+use Rattle.stages.specs.Bits.{noBits}
+use Rattle.stages.specs.Close.{isClosed, isAsleep, endOf, drops, closedBy, afterFall}
+use Rattle.stages.specs.Wp.{fallWp}
+use Rattle.stages.specs.declared.stage.End.{End}
+use Rattle.stages.specs.declared.stage.End.the-variants.{Quiet, Drops, Sleeps}
+use Rattle.stages.specs.declared.stage.Line.the-variants.{Down, Up}
 use Rattle.select.specs.Fall.{statusByte}
 use Rattle.stages.specs.Sound.{soundStage}
 use Rattle.select.specs.SoundLaws.{rise-sound, rise-masked, fall-sound}
@@ -17,7 +22,7 @@ use Rattle.pins.specs.Edges.{seenBy, csFall, csRise, sckRise, sckFall}
 use Rattle.pins.specs.Levels.{atRest, holdHigh}
 use Rattle.pins.specs.Sound.{rests, soundBy, sound}
 use Rattle.stages.specs.declared.stage.Stage.{Stage}
-use Rattle.stages.specs.declared.stage.Stage.the-variants.{Closed, Code, Upper, Lower, Ready, ArrayOut, StatusOut, Writing, Keeping, Over}
+use Rattle.stages.specs.declared.stage.Stage.the-variants.{Closed, Code, Upper, Lower, Ready, ArrayOut, StatusOut, Writing, Keeping, Over, Dummy, IdentOut, Asleep}
 use Rattle.pins.specs.declared.hold.Hold.{Hold}
 use Rattle.pins.specs.declared.hold.Hold.the-variants.{High, LowCsLow, LowCsHigh}
 use Rattle.pins.specs.declared.state.State.{State}
@@ -57,9 +62,9 @@ unfolding sound rests soundStage
 rest-sound part kept true p k = both (both (both p k) refl) refl
 rest-sound part kept false p k = both (both (both p k) refl) refl
 
-pub closed-is : (stage : Stage) → isClosed stage ≡ true → stage ≡ Closed
+pub closed-is : (stage : Stage) → (isClosed stage && not (isAsleep stage)) ≡ true → stage ≡ Closed
 closed-is Closed h = refl
-closed-is (Code shift) h = cc
+closed-is (Code wp shift) h = cc
 closed-is (Upper purpose shift) h = cc
 closed-is (Lower purpose shift page) h = cc
 closed-is (Ready what at) h = cc
@@ -68,20 +73,19 @@ closed-is (StatusOut level bit) h = cc
 closed-is (Writing came shift at) h = cc
 closed-is (Keeping wp shift) h = cc
 closed-is (Over end) h = cc
-
-high-is : (hold : Hold) → holdHigh hold ≡ true → hold ≡ High
-high-is High h = refl
-high-is LowCsLow h = cc
-high-is LowCsHigh h = cc
+closed-is (Dummy shift at) h = cc
+closed-is (IdentOut level bit at) h = cc
+closed-is Asleep h = cc
 
 rest-of :
     (part kept : ℕ) (power sck si wp latch : Bool) (hold : Hold) (stage : Stage)
-    → (not sck && not si && wp && not latch && holdHigh hold && isClosed stage) ≡ true
+    → (not sck && not si && wp && not latch && holdHigh hold && isClosed stage && not (isAsleep stage)) ≡ true
     → _≡_ {A = State}
     (record { part = part; kept = kept; power = power; sck = sck; si = si; wp = wp; latch = latch; hold = hold; stage = stage })
     (atRest part kept power)
-rest-of part kept power false false true false hold stage h =
-    rw (high-is hold (left (holdHigh hold) (isClosed stage) h), closed-is stage (right (holdHigh hold) (isClosed stage) h))
+rest-of part kept power false false true false High stage h = rw (closed-is stage h)
+rest-of part kept power false false true false LowCsLow stage h = cc
+rest-of part kept power false false true false LowCsHigh stage h = cc
 rest-of part kept power false false true true hold stage h = cc
 rest-of part kept power false false false latch hold stage h = cc
 rest-of part kept power false true wp latch hold stage h = cc
@@ -91,6 +95,23 @@ rest-of part kept power true si wp latch hold stage h = cc
 pub rests-is : (s : State) → rests s ≡ true → s ≡ atRest (s .part) (s .kept) (s .power)
 unfolding rests
 rests-is s h = rest-of (s .part) (s .kept) (s .power) (s .sck) (s .si) (s .wp) (s .latch) (s .hold) (s .stage) h
+
+-- the edges of /CS lead to a stage that is sound on any part
+fall-opens : (f : Figure) (wp : Bool) (stage : Stage) → soundStage f (afterFall f wp stage) ≡ true
+unfolding afterFall fallWp soundStage
+fall-opens f wp stage = go (isAsleep stage) (f .«wp_at_fall») wp refl
+  where
+    go : (t u v : Bool) → f .«wp_at_fall» ≡ u → soundStage f (cond t (Over Quiet) (Code (cond (u && not v) Down Up) noBits)) ≡ true
+    go true u v e = refl
+    go false true true e = rw e
+    go false true false e = rw e
+    go false false v e = rw e
+
+close-rests : (f : Figure) (end : End) → soundStage f (closedBy end) ≡ true
+unfolding soundStage
+close-rests f Quiet = refl
+close-rests f Drops = refl
+close-rests f Sleeps = refl
 
 abbrev pub Sound : State → Type 0
 Sound s = sound s ≡ true
@@ -113,15 +134,16 @@ module _ (s : State) (h : sound s ≡ true) (on : s .power ≡ true) where
       → soundStage (figureOf (s .part)) (next .stage) ≡ true → sound next ≡ true
   staged next p q k t = good-sound next (p ∙ on) (record { part = rw q (g .part); kept = rw (q, k) (g .kept); stage = rw q t })
 
-  pub cs-fall : Keeps (csFall s)
-  unfolding csFall soundStage
-  cs-fall = choose Sound (holdHigh (s .hold)) (staged _ refl refl refl refl) (kept-on _ refl refl refl refl)
+  pub cs-fall : Keeps (csFall (figureOf (s .part)) s)
+  unfolding csFall
+  cs-fall =
+      choose Sound (holdHigh (s .hold)) (staged _ refl refl refl (fall-opens (figureOf (s .part)) (s .wp) (s .stage))) (kept-on _ refl refl refl refl)
 
   pub cs-rise : Keeps (csRise s)
-  unfolding csRise soundStage
+  unfolding csRise
   cs-rise =
       choose Keeps (holdHigh (s .hold))
-      (choose Keeps (s .latch && drops (s .stage)) (staged _ refl refl refl refl) (staged _ refl refl refl refl))
+      (choose Keeps (s .latch && drops (s .stage)) (staged _ refl refl refl (close-rests _ (endOf (s .stage)))) (staged _ refl refl refl (close-rests _ (endOf (s .stage)))))
       (kept-on _ refl refl refl refl)
 
   pub sck-rise : Keeps (sckRise (figureOf (s .part)) s)

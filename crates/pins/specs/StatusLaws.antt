@@ -7,7 +7,7 @@ use mathlib.Core.Path.{_≡_, refl, sym, subst}
 use mathlib.Core.Bool.{Bool, true, false, cond, not, _&&_, _||_}
 use borrow.Author.Tests.{eqb-true, eqb-false}
 use lib.Bits.{bitAnd, and-le-r}
-use lib.Dec.{eqb}
+use lib.Dec.{eqb, leb}
 use lib.ListN.{length}
 use Rattle.laws.specs.Bits.{bitAt}
 use Rattle.parts.specs.FigureLaws.{fair, below-count}
@@ -22,7 +22,7 @@ use Rattle.pins.specs.declared.state.State.{State}
 -- the byte, bit by bit
 abbrev pub statusBits : ℕ → ℕ → Bool → ℕ
 statusBits part kept latch =
-    cond (eqb part 3) (bitAt kept 7) 0 * 128 + bitAt kept 3 * 8 + bitAt kept 2 * 4 + lowBit latch * 2
+    cond (leb 3 part) (bitAt kept 7) 0 * 128 + bitAt kept 3 * 8 + bitAt kept 2 * 4 + lowBit latch * 2
 
 -- every number below a bound passes a test
 allBelow : (ℕ → Bool) → ℕ → Bool

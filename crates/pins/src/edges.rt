@@ -13,9 +13,9 @@ use select::fall::status_byte;
 use select::notes::Note;
 use select::rise::Seen;
 use select::rise::rise;
-use stages::bits::NO_BITS;
+use stages::close::after_close;
+use stages::close::after_fall;
 use stages::close::drops;
-use stages::stage::Stage;
 
 impl State {
     // This state, with the note nothing.
@@ -28,14 +28,16 @@ impl State {
         }
     }
 
-    // A select opens; in hold only the level moves.
-    pub fn cs_fall(self) -> Moved
-        ensures { λ r. ⌜ r ≡ csFall self ⌝ }
+    // A select opens, or the chip wakes; in hold only the level moves.
+    pub fn cs_fall(self, f: Figure) -> Moved
+        ensures { λ r. ⌜ r ≡ csFall f self ⌝ }
     {
         let hold = self.hold;
+        let stage = self.stage;
         if hold_high(hold) {
+            let next = after_fall(f, self.wp, stage);
             let state = State {
-                stage: Stage::Code { shift: NO_BITS },
+                stage: next,
                 ..self
             };
             Moved {
@@ -54,7 +56,7 @@ impl State {
         }
     }
 
-    // The select closes, and the latch may drop; in hold only the level moves.
+    // The select closes, and the latch may drop or the chip fall asleep; in hold only the level moves.
     pub fn cs_rise(self) -> Moved
         ensures { λ r. ⌜ r ≡ csRise self ⌝ }
     {
@@ -62,10 +64,11 @@ impl State {
         let stage = self.stage;
         if hold_high(hold) {
             let dropped = self.latch & drops(stage);
+            let next = after_close(stage);
             if dropped {
                 let state = State {
                     latch: false,
-                    stage: Stage::Closed,
+                    stage: next,
                     ..self
                 };
                 Moved {
@@ -74,7 +77,7 @@ impl State {
                 }
             } else {
                 let state = State {
-                    stage: Stage::Closed,
+                    stage: next,
                     ..self
                 };
                 Moved {

@@ -6,6 +6,7 @@ use crate::state::State;
 use parts::figures::Figure;
 use parts::figures::figure_of;
 use parts::figures::is_part;
+use stages::close::is_asleep;
 use stages::close::is_closed;
 use stages::sound::sound_stage;
 
@@ -15,7 +16,7 @@ fn rests(s: State) -> bool
 {
     let hold = s.hold;
     let stage = s.stage;
-    !s.sck & !s.si & s.wp & !s.latch & hold_high(hold) & is_closed(stage)
+    !s.sck & !s.si & s.wp & !s.latch & hold_high(hold) & is_closed(stage) & !is_asleep(stage)
 }
 
 // The test by figures that the caller has read. Power off has one form, the off state. One test after the other: with power

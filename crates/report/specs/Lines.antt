@@ -1,6 +1,6 @@
 -- The lines of the report (document 01, "The replay program"). Assumes nothing.
 use Prim.Native.Nat.{ℕ}
-use mathlib.Core.Bool.{Bool, cond}
+use mathlib.Core.Bool.{Bool, cond, _||_}
 use mathlib.Core.List.{List, _++_}
 use lib.Dec.{eqb, leb, ltb}
 use lib.ListN.{take}
@@ -8,9 +8,9 @@ use Rattle.report.specs.Text.{ascii, hex, hexes, decimal}
 use Rattle.report.specs.Record.{codeClocks, mostShown}
 use Rattle.report.specs.declared.record.Record.{Record}
 
--- "op-code in hex, or "--" under eight clocks"
-unfoldable pub codeText : ℕ → ℕ → List ℕ
-codeText clocks code = cond (ltb clocks codeClocks) (ascii "--") (hex code)
+-- "op-code in hex, or "--" under eight clocks"; "the rest of that select is ignored (op "--" in replay)" (document 02, Wish 3)
+unfoldable pub codeText : Bool → ℕ → ℕ → List ℕ
+codeText ignored clocks code = cond (ignored || ltb clocks codeClocks) (ascii "--") (hex code)
 
 -- "whole bytes of SO .. in hex, or "-", at most the first 64 and then "+" if there are more". The list has the first
 -- of them, `whole` is how many there were.
@@ -32,7 +32,7 @@ partLine part size kept =
 -- "op-code ..; seen rises; stored notes"
 unfoldable pub countsText : Record → List ℕ
 countsText told =
-    ascii " op " ++ codeText (told .clocks) (told .code)
+    ascii " op " ++ codeText (told .ignored) (told .clocks) (told .code)
     ++ numbered (ascii " clocks ") (told .clocks)
     ++ numbered (ascii " stored ") (told .stored)
 

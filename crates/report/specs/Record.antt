@@ -19,8 +19,8 @@ unfoldable pub counted : ℕ → ℕ
 counted n = cond (ltb n 0xFFFFFFFFFFFFFFFF) (n + 1) n
 
 -- a select that no rise was seen in
-abbrev pub noRise : Record
-noRise = record { clocks = 0; code = 0; sample = noBits; shown = 0; stored = 0 }
+abbrev pub noRise : Bool → Record
+noRise ignored = record { ignored = ignored; clocks = 0; code = 0; sample = noBits; shown = 0; stored = 0 }
 
 -- "The first eight bits are the op-code": the clocks that it takes
 abbrev pub codeClocks : ℕ
@@ -39,9 +39,9 @@ sampled bits Released = Part bits
 -- "whole bytes of SO"
 abbrev pub withSample : Record → ℕ → ℕ → Taken → Record
 withSample r clocks code (Part bits) =
-    record { clocks = clocks; code = code; sample = bits; shown = r .shown; stored = r .stored }
+    record { ignored = r .ignored; clocks = clocks; code = code; sample = bits; shown = r .shown; stored = r .stored }
 withSample r clocks code (Whole byte) =
-    record { clocks = clocks; code = code; sample = noBits; shown = counted (r .shown); stored = r .stored }
+    record { ignored = r .ignored; clocks = clocks; code = code; sample = noBits; shown = counted (r .shown); stored = r .stored }
 
 -- "seen rises": the record after one, with SI and SO as they stood before it
 unfoldable pub risen : Record → Bool → Level → Record
@@ -67,7 +67,7 @@ unfoldable pub noted : Record → Note → Record
 noted r Nothing = r
 noted r (Latch on) = r
 noted r (Stored at byte) =
-    record { clocks = r .clocks; code = r .code; sample = r .sample; shown = r .shown; stored = counted (r .stored) }
+    record { ignored = r .ignored; clocks = r .clocks; code = r .code; sample = r .sample; shown = r .shown; stored = counted (r .stored) }
 noted r (HeldBack at reason) = r
 noted r (KeptSet kept) = r
 noted r (KeptHeldBack reason) = r

@@ -19,13 +19,13 @@ use crate::text::put_hexes;
 // The bytes of the buffer; `specs/Text.antt` has it for the definitions.
 pub const LINE: usize = 256;
 
-// "op-code in hex, or "--" under eight clocks".
-fn put_code(out: &mut [u8; LINE], at: usize, clocks: u64, code: u8) -> usize
+// "op-code in hex, or "--" under eight clocks", and in a select that is ignored.
+fn put_code(out: &mut [u8; LINE], at: usize, ignored: bool, clocks: u64, code: u8) -> usize
     requires { ⌜ at + 2 ≤ lineRoom ⌝ }
     ensures { λ r. ⌜ r ≡ at + 2 ⌝ }
-    ensures { λ r. ⌜ Puts (now (out .entry)) at (codeText clocks code) (now (out .exit)) r ⌝ }
+    ensures { λ r. ⌜ Puts (now (out .entry)) at (codeText ignored clocks code) (now (out .exit)) r ⌝ }
 {
-    if clocks < CODE_CLOCKS {
+    if ignored | (clocks < CODE_CLOCKS) {
         return put(out, at, b"--");
     }
     put_hex(out, at, code)
@@ -79,7 +79,7 @@ fn put_counts(out: &mut [u8; LINE], at: usize, told: Record) -> usize
     ensures { λ r. ⌜ Puts (now (out .entry)) at (countsText told) (now (out .exit)) r ⌝ }
 {
     let at = put(out, at, b" op ");
-    let at = put_code(out, at, told.clocks, told.code);
+    let at = put_code(out, at, told.ignored, told.clocks, told.code);
     let at = put_numbered(out, at, b" clocks ", told.clocks);
     put_numbered(out, at, b" stored ", told.stored)
 }

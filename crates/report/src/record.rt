@@ -13,6 +13,8 @@ pub const SHOWN: usize = 64;
 pub const CODE_CLOCKS: u64 = 8;
 
 pub struct Record {
+    // Whether the chip slept before the select, which is ignored then.
+    pub ignored: bool,
     // Seen rises.
     pub clocks: u64,
     // The op-code's bits, as far as they came, the newest lowest.
@@ -63,10 +65,11 @@ fn keep(shown: &mut [u8; SHOWN], at: u64, byte: u8)
 
 impl Record {
     // A select that no rise was seen in.
-    pub fn new() -> Record
-        ensures { λ r. ⌜ r ≡ noRise ⌝ }
+    pub fn new(ignored: bool) -> Record
+        ensures { λ r. ⌜ r ≡ noRise ignored ⌝ }
     {
         Record {
+            ignored,
             clocks: 0,
             code: 0,
             sample: NO_BITS,
@@ -92,6 +95,7 @@ impl Record {
             Taken::Whole(byte) => {
                 keep(shown, self.shown, byte);
                 Record {
+                    ignored: self.ignored,
                     clocks,
                     code,
                     sample: NO_BITS,

@@ -1,11 +1,12 @@
 -- A seen fall of SCK: "Output moves on a seen fall of SCK once the header (op-code, and address for READ) is whole."
 -- Assumes nothing.
-use Prim.Native.Nat.{ℕ, _-_}
+use Prim.Native.Nat.{ℕ, _+_, _-_}
 use mathlib.Core.Bool.{Bool, cond}
 use mathlib.Core.List.{List}
 use lib.ListN.{getD}
-use lib.Dec.{eqb}
+use lib.Dec.{eqb, ltb}
 use lib.Bits.{bitOr}
+use Rattle.parts.specs.Figures.{identBytes}
 use Rattle.parts.specs.declared.figures.Figure.{Figure}
 use Rattle.stages.specs.Bits.{bitOf}
 use Rattle.stages.specs.Address.{nextAddress}
@@ -14,9 +15,9 @@ use Rattle.select.specs.declared.notes.Level.the-variants.{Low, High, Re
 use Rattle.stages.specs.declared.stage.End.the-variants.{Quiet}
 use Rattle.stages.specs.declared.stage.Line.{Line}
 use Rattle.stages.specs.declared.stage.Line.the-variants.{Down, Up}
-use Rattle.stages.specs.declared.stage.What.the-variants.{Array, Status}
+use Rattle.stages.specs.declared.stage.What.the-variants.{Array, Status, Ident}
 use Rattle.stages.specs.declared.stage.Stage.{Stage}
-use Rattle.stages.specs.declared.stage.Stage.the-variants.{Closed, Code, Upper, Lower, Ready, ArrayOut, StatusOut, Writing, Keeping, Over}
+use Rattle.stages.specs.declared.stage.Stage.the-variants.{Closed, Code, Upper, Lower, Ready, ArrayOut, StatusOut, Writing, Keeping, Over, Dummy, IdentOut, Asleep}
 
 -- "Status byte: bit 7 WPEN (part 3; 0 on parts 1 and 2), bits 3 and 2 BP1 and BP0, bit 1 the latch, the rest 0."
 -- The kept bits lie under the part's mask, so the rest is 0.
@@ -30,22 +31,33 @@ showArray xs at bit = ArrayOut (bitOf (getD xs at 0) bit) bit at
 unfoldable pub showStatus : ℕ → ℕ → Stage
 showStatus status bit = StatusOut (bitOf status bit) bit
 
+-- "RDID 9Fh shows the device bytes that 004 prints, then releases SO."
+unfoldable pub showIdent : Figure → ℕ → ℕ → Stage
+showIdent f at bit = IdentOut (bitOf (getD (f .ident) at 0) bit) bit at
+
+unfoldable pub nextIdent : Figure → ℕ → Stage
+nextIdent f at = cond (ltb at (identBytes - 1)) (showIdent f (at + 1) 7) (Over Quiet)
+
 -- "once the header is whole": before that, and where nothing is shown, a fall does nothing. "bit 7 first, then the next
 --  address, rolling from the last to 0. RDSR shows the status byte once; the fall after its eighth bit's rise releases
 --  SO (H)."
 unfoldable pub fall : Figure → List ℕ → ℕ → Stage → Stage
 fall f xs status Closed = Closed
-fall f xs status (Code shift) = Code shift
+fall f xs status (Code wp shift) = Code wp shift
 fall f xs status (Upper purpose shift) = Upper purpose shift
 fall f xs status (Lower purpose shift page) = Lower purpose shift page
 fall f xs status (Ready Array at) = showArray xs at 7
 fall f xs status (Ready Status at) = showStatus status 7
+fall f xs status (Ready Ident at) = showIdent f at 7
 fall f xs status (ArrayOut level bit at) =
     cond (eqb bit 0) (showArray xs (nextAddress f at) 7) (showArray xs at (bit - 1))
 fall f xs status (StatusOut level bit) = cond (eqb bit 0) (Over Quiet) (showStatus status (bit - 1))
 fall f xs status (Writing came shift at) = Writing came shift at
 fall f xs status (Keeping wp shift) = Keeping wp shift
 fall f xs status (Over end) = Over end
+fall f xs status (Dummy shift at) = Dummy shift at
+fall f xs status (IdentOut level bit at) = cond (eqb bit 0) (nextIdent f at) (showIdent f at (bit - 1))
+fall f xs status Asleep = Asleep
 
 abbrev pub lineLevel : Line → Level
 lineLevel Down = Low
@@ -54,7 +66,7 @@ lineLevel Up = High
 -- the level that a select puts on SO
 abbrev pub stageLevel : Stage → Level
 stageLevel Closed = Released
-stageLevel (Code shift) = Released
+stageLevel (Code wp shift) = Released
 stageLevel (Upper purpose shift) = Released
 stageLevel (Lower purpose shift page) = Released
 stageLevel (Ready what at) = Released
@@ -63,3 +75,6 @@ stageLevel (StatusOut level bit) = lineLevel level
 stageLevel (Writing came shift at) = Released
 stageLevel (Keeping wp shift) = Released
 stageLevel (Over end) = Released
+stageLevel (Dummy shift at) = Released
+stageLevel (IdentOut level bit at) = lineLevel level
+stageLevel Asleep = Released

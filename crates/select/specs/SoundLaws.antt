@@ -1,5 +1,5 @@
 -- A seen rise and a seen fall of SCK keep a stage sound, over any part's figures. Assumes nothing.
-use Prim.Native.Nat.{ℕ, _-_, _*_}
+use Prim.Native.Nat.{ℕ, _+_, _-_, _*_}
 use mathlib.Core.Path.{_≡_, refl}
 use mathlib.Core.Bool.{Bool, true, false, cond, _&&_}
 use mathlib.Core.List.{List}
@@ -8,30 +8,31 @@ use borrow.Author.Tests.{lt-ltb, ltb-true}
 use lib.Bits.{bitAnd, and-le-r}
 use lib.Dec.{eqb, ltb}
 use Rattle.parts.specs.Commands.{command}
+use Rattle.parts.specs.Figures.{identBytes}
 use Rattle.parts.specs.FigureLaws.{Fair}
 use Rattle.laws.specs.MaskLaws.{under-twice}
 use Rattle.laws.specs.TestLaws.{both, left, right}
 use Rattle.parts.specs.declared.figures.Figure.{Figure}
 use Rattle.parts.specs.declared.commands.Command.{Command}
-use Rattle.parts.specs.declared.commands.Command.the-variants.{Wren, Wrdi, Rdsr, Wrsr, Read, Write, Other}
+use Rattle.parts.specs.declared.commands.Command.the-variants.{Wren, Wrdi, Rdsr, Wrsr, Read, Fstrd, Write, Rdid, Sleep, Other}
 use Rattle.parts.specs.Guards.{mayKeep}
 use Rattle.parts.specs.declared.guards.Verdict as verdict
 use Rattle.stages.specs.Address.{upperPage, nextAddress}
 use Rattle.stages.specs.Bits.{takeBit}
 use Rattle.stages.specs.Wp.{isUp, cameUp, byteWp, byteCame}
-use Rattle.select.specs.Fall.{showArray, showStatus, fall}
-use Rattle.select.specs.Rise.{byCommand, opened, codeTaken, codeRise, upperTaken, upperRise, lowerTaken, lowerRise}
+use Rattle.select.specs.Fall.{showArray, showStatus, showIdent, nextIdent, fall}
+use Rattle.select.specs.Rise.{byCommand, opened, codeTaken, codeRise, upperTaken, upperRise, lowerTaken, lowerRise, dummyTaken, dummyRise}
 use Rattle.select.specs.Rise.{writeTaken, writeRise, keptBy, keepTaken, keepRise, rise}
 use Rattle.stages.specs.SoundLaws.{within, SoundTaken, take-sound, next-sound, after-code, after-address, DataTaken, data-sound}
-use Rattle.stages.specs.Sound.{soundShift, soundStage}
+use Rattle.stages.specs.Sound.{soundShift, soundFall, soundStage}
 use Rattle.stages.specs.declared.stage.Came.{Came}
 use Rattle.stages.specs.declared.stage.End.the-variants.{Quiet}
 use Rattle.stages.specs.declared.stage.Line.{Line}
 use Rattle.stages.specs.declared.stage.Purpose.{Purpose}
-use Rattle.stages.specs.declared.stage.Purpose.the-variants.{ToRead, ToWrite}
-use Rattle.stages.specs.declared.stage.What.the-variants.{Array, Status}
+use Rattle.stages.specs.declared.stage.Purpose.the-variants.{ToRead, ToReadFast, ToWrite}
+use Rattle.stages.specs.declared.stage.What.the-variants.{Array, Status, Ident}
 use Rattle.stages.specs.declared.stage.Stage.{Stage}
-use Rattle.stages.specs.declared.stage.Stage.the-variants.{Closed, Code, Upper, Lower, Ready, ArrayOut, StatusOut, Writing, Keeping, Over}
+use Rattle.stages.specs.declared.stage.Stage.the-variants.{Closed, Code, Upper, Lower, Ready, ArrayOut, StatusOut, Writing, Keeping, Over, Dummy, IdentOut, Asleep}
 use Rattle.select.specs.declared.rise.Seen.{Seen}
 use Rattle.stages.specs.declared.bits.Taken.{Taken}
 use Rattle.stages.specs.declared.bits.Taken.the-variants.{Part, Whole}
@@ -43,27 +44,34 @@ module _ (f : Figure) (fair : Fair f) where
   kept-masked seen byte verdict.the-variants.Allowed h = under-twice byte (f .kept) (fair .mask)
   kept-masked seen byte (verdict.the-variants.HeldBack reason) h = h
 
-  begun-masked : (seen : Seen) (code : ℕ) (c : Command) → byCommand f seen code c .kept ≡ seen .kept
-  begun-masked seen code Wren = refl
-  begun-masked seen code Wrdi = refl
-  begun-masked seen code Rdsr = refl
-  begun-masked seen code Wrsr = refl
-  begun-masked seen code Read = refl
-  begun-masked seen code Write = refl
-  begun-masked seen code Other = refl
+  begun-masked : (seen : Seen) (wp : Line) (code : ℕ) (c : Command) → byCommand f seen wp code c .kept ≡ seen .kept
+  begun-masked seen wp code Wren = refl
+  begun-masked seen wp code Wrdi = refl
+  begun-masked seen wp code Rdsr = refl
+  begun-masked seen wp code Wrsr = refl
+  begun-masked seen wp code Read = refl
+  begun-masked seen wp code Write = refl
+  begun-masked seen wp code Fstrd = refl
+  begun-masked seen wp code Rdid = refl
+  begun-masked seen wp code Sleep = refl
+  begun-masked seen wp code Other = refl
 
-  code-masked : (seen : Seen) (t : Taken) → codeTaken f seen t .kept ≡ seen .kept
+  code-masked : (seen : Seen) (wp : Line) (t : Taken) → codeTaken f seen wp t .kept ≡ seen .kept
   unfolding opened
-  code-masked seen (Part more) = refl
-  code-masked seen (Whole code) = begun-masked seen code (command (f .ops) code)
+  code-masked seen wp (Part more) = refl
+  code-masked seen wp (Whole code) = begun-masked seen wp code (command (f .ops) code)
 
   upper-masked : (seen : Seen) (purpose : Purpose) (t : Taken) → upperTaken f seen purpose t .kept ≡ seen .kept
   upper-masked seen purpose (Part more) = refl
   upper-masked seen purpose (Whole byte) = refl
 
-  lower-masked : (seen : Seen) (purpose : Purpose) (page : ℕ) (t : Taken) → lowerTaken seen purpose page t .kept ≡ seen .kept
+  lower-masked : (seen : Seen) (purpose : Purpose) (page : ℕ) (t : Taken) → lowerTaken f seen purpose page t .kept ≡ seen .kept
   lower-masked seen purpose page (Part more) = refl
   lower-masked seen purpose page (Whole byte) = refl
+
+  dummy-masked : (seen : Seen) (at : ℕ) (t : Taken) → dummyTaken seen at t .kept ≡ seen .kept
+  dummy-masked seen at (Part more) = refl
+  dummy-masked seen at (Whole byte) = refl
 
   write-masked : (seen : Seen) (came : Came) (at : ℕ) (t : Taken) → writeTaken f seen came at t .kept ≡ seen .kept
   write-masked seen came at (Part more) = refl
@@ -76,32 +84,38 @@ module _ (f : Figure) (fair : Fair f) where
 
   pub rise-masked : (seen : Seen) (stage : Stage) → bitAnd (seen .kept) (f .kept) ≡ seen .kept
       → bitAnd (rise f seen stage .kept) (f .kept) ≡ rise f seen stage .kept
-  unfolding rise codeRise upperRise lowerRise writeRise keepRise
+  unfolding rise codeRise upperRise lowerRise dummyRise writeRise keepRise
   rise-masked seen Closed h = h
-  rise-masked seen (Code shift) h = rw (code-masked seen (takeBit shift (seen .si))) h
+  rise-masked seen (Code wp shift) h = rw (code-masked seen wp (takeBit shift (seen .si))) h
   rise-masked seen (Upper purpose shift) h = rw (upper-masked seen purpose (takeBit shift (seen .si))) h
   rise-masked seen (Lower purpose shift page) h = rw (lower-masked seen purpose page (takeBit shift (seen .si))) h
   rise-masked seen (Ready what at) h = h
   rise-masked seen (ArrayOut level bit at) h = h
   rise-masked seen (StatusOut level bit) h = h
   rise-masked seen (Writing came shift at) h = rw (write-masked seen (byteCame came shift (seen .wp)) at (takeBit shift (seen .si))) h
-  rise-masked seen (Keeping wp shift) h = keep-masked seen (byteWp wp shift (seen .wp)) (takeBit shift (seen .si)) h
+  rise-masked seen (Keeping wp shift) h = keep-masked seen (byteWp f wp shift (seen .wp)) (takeBit shift (seen .si)) h
   rise-masked seen (Over end) h = h
+  rise-masked seen (Dummy shift at) h = rw (dummy-masked seen at (takeBit shift (seen .si))) h
+  rise-masked seen (IdentOut level bit at) h = h
+  rise-masked seen Asleep h = h
 
-  begun-sound : (seen : Seen) (code : ℕ) (c : Command) → soundStage f (byCommand f seen code c .stage) ≡ true
+  begun-sound : (seen : Seen) (wp : Line) (code : ℕ) (c : Command) → soundFall f (isUp wp) ≡ true → soundStage f (byCommand f seen wp code c .stage) ≡ true
   unfolding soundStage
-  begun-sound seen code Wren = refl
-  begun-sound seen code Wrdi = refl
-  begun-sound seen code Rdsr = refl
-  begun-sound seen code Wrsr = refl
-  begun-sound seen code Read = after-code f fair ToRead code
-  begun-sound seen code Write = after-code f fair ToWrite code
-  begun-sound seen code Other = refl
+  begun-sound seen wp code Wren up = refl
+  begun-sound seen wp code Wrdi up = refl
+  begun-sound seen wp code Rdsr up = refl
+  begun-sound seen wp code Wrsr up = rw up
+  begun-sound seen wp code Read up = after-code f fair ToRead code
+  begun-sound seen wp code Fstrd up = after-code f fair ToReadFast code
+  begun-sound seen wp code Write up = after-code f fair ToWrite code
+  begun-sound seen wp code Rdid up = refl
+  begun-sound seen wp code Sleep up = refl
+  begun-sound seen wp code Other up = refl
 
-  code-sound : (seen : Seen) (t : Taken) → SoundTaken t → soundStage f (codeTaken f seen t .stage) ≡ true
+  code-sound : (seen : Seen) (wp : Line) (t : Taken) → soundFall f (isUp wp) ≡ true → SoundTaken t → soundStage f (codeTaken f seen wp t .stage) ≡ true
   unfolding soundStage opened
-  code-sound seen (Part more) h = h
-  code-sound seen (Whole code) h = begun-sound seen code (command (f .ops) code)
+  code-sound seen wp (Part more) up h = both h up
+  code-sound seen wp (Whole code) up h = begun-sound seen wp code (command (f .ops) code) up
 
   upper-sound : (seen : Seen) (purpose : Purpose) (t : Taken) → eqb (f .«address_bytes») 2 ≡ true → SoundTaken t
       → soundStage f (upperTaken f seen purpose t .stage) ≡ true
@@ -110,15 +124,20 @@ module _ (f : Figure) (fair : Fair f) where
   upper-sound seen purpose (Whole byte) two h = rw (lt-ltb (upperPage f byte * 256) (f .size) (within f fair (and-le-r byte (f .upper))))
 
   lower-sound : (seen : Seen) (purpose : Purpose) (page : ℕ) (t : Taken) → ltb (page * 256) (f .size) ≡ true → SoundTaken t
-      → soundStage f (lowerTaken seen purpose page t .stage) ≡ true
+      → soundStage f (lowerTaken f seen purpose page t .stage) ≡ true
   unfolding soundStage
   lower-sound seen purpose page (Part more) p h = both p h
   lower-sound seen purpose page (Whole byte) p h = after-address f fair purpose page (ltb-true (page * 256) (f .size) p) h
 
-  write-sound : (seen : Seen) (came : Came) (at : ℕ) (t : Taken) → ltb at (f .size) ≡ true → DataTaken (cameUp came) t
+  dummy-sound : (seen : Seen) (at : ℕ) (t : Taken) → eqb (f .dummy) 1 && ltb at (f .size) ≡ true → SoundTaken t → soundStage f (dummyTaken seen at t .stage) ≡ true
+  unfolding soundStage
+  dummy-sound seen at (Part more) p h = both p h
+  dummy-sound seen at (Whole byte) p h = right (eqb (f .dummy) 1) _ p
+
+  write-sound : (seen : Seen) (came : Came) (at : ℕ) (t : Taken) → ltb at (f .size) ≡ true → DataTaken t
       → soundStage f (writeTaken f seen came at t .stage) ≡ true
   unfolding soundStage
-  write-sound seen came at (Part more) p h = both (both p (h .0)) (h .1)
+  write-sound seen came at (Part more) p h = rw (p, h .0, h .1)
   write-sound seen came at (Whole byte) p h = rw (lt-ltb _ _ (next-sound f fair at))
 
   kept-sound : (seen : Seen) (byte : ℕ) (v : verdict.Verdict) → soundStage f (keptBy f seen byte v .stage) ≡ true
@@ -126,15 +145,16 @@ module _ (f : Figure) (fair : Fair f) where
   kept-sound seen byte verdict.the-variants.Allowed = refl
   kept-sound seen byte (verdict.the-variants.HeldBack reason) = refl
 
-  keep-sound : (seen : Seen) (wp : Line) (t : Taken) → DataTaken (isUp wp) t → soundStage f (keepTaken f seen wp t .stage) ≡ true
+  keep-sound : (seen : Seen) (wp : Line) (t : Taken) → DataTaken t → soundStage f (keepTaken f seen wp t .stage) ≡ true
   unfolding soundStage
-  keep-sound seen wp (Part more) h = both (h .0) (h .1)
+  keep-sound seen wp (Part more) h = rw (h .0, h .1)
   keep-sound seen wp (Whole byte) h = kept-sound seen byte (mayKeep f (seen .latch) (seen .kept) (isUp wp))
 
   pub rise-sound : (seen : Seen) (stage : Stage) → soundStage f stage ≡ true → soundStage f (rise f seen stage .stage) ≡ true
-  unfolding soundStage rise codeRise upperRise lowerRise writeRise keepRise
+  unfolding soundStage rise codeRise upperRise lowerRise dummyRise writeRise keepRise
   rise-sound seen Closed h = refl
-  rise-sound seen (Code shift) h = code-sound seen (takeBit shift (seen .si)) (take-sound shift (seen .si) h)
+  rise-sound seen (Code wp shift) h =
+      code-sound seen wp (takeBit shift (seen .si)) (right (soundShift shift) _ h) (take-sound shift (seen .si) (left (soundShift shift) _ h))
   rise-sound seen (Upper purpose shift) h =
       upper-sound seen purpose (takeBit shift (seen .si)) (left _ _ h) (take-sound shift (seen .si) (right (eqb (f .«address_bytes») 2) _ h))
   rise-sound seen (Lower purpose shift page) h =
@@ -143,27 +163,30 @@ module _ (f : Figure) (fair : Fair f) where
   rise-sound seen (ArrayOut level bit at) h = h
   rise-sound seen (StatusOut level bit) h = h
   rise-sound seen (Writing came shift at) h =
-      let own = byteCame came shift (seen .wp) in
       let sure = left (ltb at (f .size) && soundShift shift) _ h in
-      write-sound seen own at (takeBit shift (seen .si)) (left _ _ sure)
-      (data-sound (cameUp own) shift (seen .si) (right (ltb at (f .size)) _ sure))
+      write-sound seen (byteCame came shift (seen .wp)) at (takeBit shift (seen .si)) (left _ _ sure)
+      (data-sound shift (seen .si) (right (ltb at (f .size)) _ sure))
   rise-sound seen (Keeping wp shift) h =
-      let own = byteWp wp shift (seen .wp) in
-      keep-sound seen own (takeBit shift (seen .si)) (data-sound (isUp own) shift (seen .si) (left (soundShift shift) _ h))
+      keep-sound seen (byteWp f wp shift (seen .wp)) (takeBit shift (seen .si)) (data-sound shift (seen .si) (left (soundShift shift) _ h))
   rise-sound seen (Over end) h = refl
+  rise-sound seen (Dummy shift at) h =
+      dummy-sound seen at (takeBit shift (seen .si)) (left _ _ h) (take-sound shift (seen .si) (right (eqb (f .dummy) 1 && ltb at (f .size)) _ h))
+  rise-sound seen (IdentOut level bit at) h = h
+  rise-sound seen Asleep h = refl
 
   -- one bit less
   lower-bit : (bit : ℕ) → ltb bit 8 ≡ true → ltb (bit - 1) 8 ≡ true
   lower-bit bit h = lt-ltb (bit - 1) 8 (omega (arith, ltb-true bit 8 h))
 
   pub fall-sound : (xs : List ℕ) (status : ℕ) (stage : Stage) → soundStage f stage ≡ true → soundStage f (fall f xs status stage) ≡ true
-  unfolding soundStage fall showArray showStatus
+  unfolding soundStage fall showArray showStatus showIdent nextIdent
   fall-sound xs status Closed h = h
-  fall-sound xs status (Code shift) h = h
+  fall-sound xs status (Code wp shift) h = h
   fall-sound xs status (Upper purpose shift) h = h
   fall-sound xs status (Lower purpose shift page) h = h
   fall-sound xs status (Ready Array at) h = both h refl
   fall-sound xs status (Ready Status at) h = refl
+  fall-sound xs status (Ready Ident at) h = both h refl
   fall-sound xs status (ArrayOut level bit at) h = go (eqb bit 0)
     where
       go : (t : Bool) → soundStage f (cond t (showArray xs (nextAddress f at) 7) (showArray xs at (bit - 1))) ≡ true
@@ -177,3 +200,14 @@ module _ (f : Figure) (fair : Fair f) where
   fall-sound xs status (Writing came shift at) h = h
   fall-sound xs status (Keeping wp shift) h = h
   fall-sound xs status (Over end) h = h
+  fall-sound xs status (Dummy shift at) h = h
+  fall-sound xs status (IdentOut level bit at) h = go (eqb bit 0)
+    where
+      next : (t : Bool) → ltb at (identBytes - 1) ≡ t → soundStage f (cond t (showIdent f (at + 1) 7) (Over Quiet)) ≡ true
+      next true e = both (lt-ltb (at + 1) identBytes (omega (arith, ltb-true at (identBytes - 1) e))) refl
+      next false e = refl
+
+      go : (t : Bool) → soundStage f (cond t (nextIdent f at) (showIdent f at (bit - 1))) ≡ true
+      go true = next (ltb at (identBytes - 1)) refl
+      go false = both (left (ltb at identBytes) (ltb bit 8) h) (lower-bit bit (right (ltb at identBytes) (ltb bit 8) h))
+  fall-sound xs status Asleep h = refl

@@ -1,9 +1,10 @@
 // A seen fall of SCK in a select: output moves.
 ghost use mathlib.Core.Path.{_≡_};
 ghost use lib.ListN.{getD};
-ghost use Rattle.select.specs.Fall.{statusByte, showArray, showStatus, fall, stageLevel};
+ghost use Rattle.select.specs.Fall.{statusByte, showArray, showStatus, showIdent, nextIdent, fall, stageLevel};
 use crate::notes::Level;
 use parts::figures::Figure;
+use parts::figures::IDENT;
 use stages::address::next_address;
 use stages::bits::bit_of;
 use stages::stage::End;
@@ -42,6 +43,27 @@ fn show_status(status: u8, bit: u16) -> Stage
     Stage::StatusOut { level, bit }
 }
 
+// One bit of the identification put on SO.
+fn show_ident(f: Figure, at: usize, bit: u16) -> Stage
+    ensures { λ r. ⌜ r ≡ showIdent f at bit ⌝ }
+{
+    let ident = f.ident;
+    let device = byte_at(&ident, at);
+    let level = bit_of(device, bit);
+    Stage::IdentOut { level, bit, at }
+}
+
+// Past a byte of the identification: the next, or nothing more.
+fn next_ident(f: Figure, at: usize) -> Stage
+    ensures { λ r. ⌜ r ≡ nextIdent f at ⌝ }
+{
+    if at < IDENT - 1 {
+        show_ident(f, at + 1, 7)
+    } else {
+        Stage::Over { end: End::Quiet }
+    }
+}
+
 // "Output moves on a seen fall of SCK once the header is whole." Every other stage stays.
 pub fn fall(f: Figure, array: &[u8], status: u8, stage: Stage) -> Stage
     ensures { λ r. ⌜ r ≡ fall f (now (array .entry)) status stage ⌝ }
@@ -50,6 +72,7 @@ pub fn fall(f: Figure, array: &[u8], status: u8, stage: Stage) -> Stage
         Stage::Ready { what, at } => match what {
             What::Array => show_array(array, at, 7),
             What::Status => show_status(status, 7),
+            What::Ident => show_ident(f, at, 7),
         },
         Stage::ArrayOut { bit, at, .. } => {
             if bit == 0 {
@@ -65,6 +88,13 @@ pub fn fall(f: Figure, array: &[u8], status: u8, stage: Stage) -> Stage
                 show_status(status, bit - 1)
             }
         }
+        Stage::IdentOut { bit, at, .. } => {
+            if bit == 0 {
+                next_ident(f, at)
+            } else {
+                show_ident(f, at, bit - 1)
+            }
+        }
         _ => stage,
     }
 }
@@ -75,15 +105,21 @@ pub fn stage_level(stage: Stage) -> Level
 {
     match stage {
         Stage::Closed => Level::Released,
+        Stage::Asleep => Level::Released,
         Stage::Code { .. } => Level::Released,
         Stage::Upper { .. } => Level::Released,
         Stage::Lower { .. } => Level::Released,
+        Stage::Dummy { .. } => Level::Released,
         Stage::Ready { .. } => Level::Released,
         Stage::ArrayOut { level, .. } => match level {
             Line::Down => Level::Low,
             Line::Up => Level::High,
         },
         Stage::StatusOut { level, .. } => match level {
+            Line::Down => Level::Low,
+            Line::Up => Level::High,
+        },
+        Stage::IdentOut { level, .. } => match level {
             Line::Down => Level::Low,
             Line::Up => Level::High,
         },

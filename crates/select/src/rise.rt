@@ -1,6 +1,6 @@
 // A seen rise of SCK in a select.
 ghost use mathlib.Core.Path.{_≡_};
-ghost use Rattle.select.specs.Rise.{quiet, opened, codeRise, upperRise, lowerRise, storeNote, writeRise, keepRise, rise};
+ghost use Rattle.select.specs.Rise.{quiet, opened, codeRise, upperRise, lowerRise, dummyRise, storeNote, writeRise, keepRise, rise};
 use crate::notes::Note;
 use parts::commands::Command;
 use parts::commands::decode;
@@ -55,8 +55,8 @@ fn to_stage(seen: Seen, stage: Stage) -> Risen
 }
 
 // A whole op-code.
-fn open(f: Figure, seen: Seen, code: u8) -> Risen
-    ensures { λ r. ⌜ r ≡ opened f seen code ⌝ }
+fn open(f: Figure, seen: Seen, wp: Line, code: u8) -> Risen
+    ensures { λ r. ⌜ r ≡ opened f seen wp code ⌝ }
 {
     let ops = f.ops;
     let command = decode(ops, code);
@@ -80,27 +80,30 @@ fn open(f: Figure, seen: Seen, code: u8) -> Risen
                 at: 0,
             },
         ),
-        Command::Wrsr => to_stage(
+        Command::Wrsr => to_stage(seen, Stage::Keeping { wp, shift: NO_BITS }),
+        Command::Read => to_stage(seen, header(f, Purpose::ToRead, code)),
+        Command::Fstrd => to_stage(seen, header(f, Purpose::ToReadFast, code)),
+        Command::Write => to_stage(seen, header(f, Purpose::ToWrite, code)),
+        Command::Rdid => to_stage(
             seen,
-            Stage::Keeping {
-                wp: Line::Up,
-                shift: NO_BITS,
+            Stage::Ready {
+                what: What::Ident,
+                at: 0,
             },
         ),
-        Command::Read => to_stage(seen, header(f, Purpose::ToRead, code)),
-        Command::Write => to_stage(seen, header(f, Purpose::ToWrite, code)),
+        Command::Sleep => to_stage(seen, Stage::Over { end: End::Sleeps }),
         Command::Other => to_stage(seen, Stage::Over { end: End::Quiet }),
     }
 }
 
 // A bit of the op-code.
-fn code_rise(f: Figure, seen: Seen, shift: u16) -> Risen
-    ensures { λ r. ⌜ r ≡ codeRise f seen shift ⌝ }
+fn code_rise(f: Figure, seen: Seen, wp: Line, shift: u16) -> Risen
+    ensures { λ r. ⌜ r ≡ codeRise f seen wp shift ⌝ }
 {
     let taken = take_bit(shift, seen.si);
     match taken {
-        Taken::Part(shift) => to_stage(seen, Stage::Code { shift }),
-        Taken::Whole(code) => open(f, seen, code),
+        Taken::Part(shift) => to_stage(seen, Stage::Code { wp, shift }),
+        Taken::Whole(code) => open(f, seen, wp, code),
     }
 }
 
@@ -126,8 +129,8 @@ fn upper_rise(f: Figure, seen: Seen, purpose: Purpose, shift: u16) -> Risen
 }
 
 // A bit of the last address byte.
-fn lower_rise(seen: Seen, purpose: Purpose, shift: u16, page: u32) -> Risen
-    ensures { λ r. ⌜ r ≡ lowerRise seen purpose shift page ⌝ }
+fn lower_rise(f: Figure, seen: Seen, purpose: Purpose, shift: u16, page: u32) -> Risen
+    ensures { λ r. ⌜ r ≡ lowerRise f seen purpose shift page ⌝ }
 {
     let taken = take_bit(shift, seen.si);
     match taken {
@@ -139,7 +142,24 @@ fn lower_rise(seen: Seen, purpose: Purpose, shift: u16, page: u32) -> Risen
                 page,
             },
         ),
-        Taken::Whole(byte) => to_stage(seen, addressed(purpose, page, byte)),
+        Taken::Whole(byte) => to_stage(seen, addressed(f, purpose, page, byte)),
+    }
+}
+
+// The dummy byte after an FSTRD's address: whatever it is, output is next.
+fn dummy_rise(seen: Seen, shift: u16, at: usize) -> Risen
+    ensures { λ r. ⌜ r ≡ dummyRise seen shift at ⌝ }
+{
+    let taken = take_bit(shift, seen.si);
+    match taken {
+        Taken::Part(shift) => to_stage(seen, Stage::Dummy { shift, at }),
+        Taken::Whole(_) => to_stage(
+            seen,
+            Stage::Ready {
+                what: What::Array,
+                at,
+            },
+        ),
     }
 }
 
@@ -183,7 +203,7 @@ fn write_rise(f: Figure, seen: Seen, came: Came, shift: u16, at: usize) -> Risen
 fn keep_rise(f: Figure, seen: Seen, wp: Line, shift: u16) -> Risen
     ensures { λ r. ⌜ r ≡ keepRise f seen wp shift ⌝ }
 {
-    let wp = byte_wp(wp, shift, seen.wp);
+    let wp = byte_wp(f, wp, shift, seen.wp);
     let taken = take_bit(shift, seen.si);
     match taken {
         Taken::Part(shift) => to_stage(seen, Stage::Keeping { wp, shift }),
@@ -218,16 +238,19 @@ pub fn rise(f: Figure, seen: Seen, stage: Stage) -> Risen
 {
     match stage {
         Stage::Closed => to_stage(seen, stage),
-        Stage::Code { shift } => code_rise(f, seen, shift),
+        Stage::Asleep => to_stage(seen, stage),
+        Stage::Code { wp, shift } => code_rise(f, seen, wp, shift),
         Stage::Upper { purpose, shift } => upper_rise(f, seen, purpose, shift),
         Stage::Lower {
             purpose,
             shift,
             page,
-        } => lower_rise(seen, purpose, shift, page),
+        } => lower_rise(f, seen, purpose, shift, page),
+        Stage::Dummy { shift, at } => dummy_rise(seen, shift, at),
         Stage::Ready { .. } => to_stage(seen, stage),
         Stage::ArrayOut { .. } => to_stage(seen, stage),
         Stage::StatusOut { .. } => to_stage(seen, stage),
+        Stage::IdentOut { .. } => to_stage(seen, stage),
         Stage::Writing { came, shift, at } => write_rise(f, seen, came, shift, at),
         Stage::Keeping { wp, shift } => keep_rise(f, seen, wp, shift),
         Stage::Over { .. } => to_stage(seen, stage),

@@ -12,10 +12,11 @@ use Rattle.laws.specs.TestLaws.{both, left, right}
 use Rattle.parts.specs.declared.figures.Figure.{Figure}
 use Rattle.stages.specs.Address.{codePage, afterCode, afterAddress, nextAddress}
 use Rattle.stages.specs.Bits.{noBits, lowBit, shifted, takeBit}
-use Rattle.stages.specs.Sound.{soundShift, soundWp, soundStage}
+use Rattle.stages.specs.Sound.{soundShift, soundStage}
 use Rattle.stages.specs.declared.stage.Purpose.{Purpose}
-use Rattle.stages.specs.declared.stage.Purpose.the-variants.{ToRead, ToWrite}
-use Rattle.stages.specs.declared.stage.Stage.the-variants.{Upper, Lower}
+use Rattle.stages.specs.declared.stage.Purpose.the-variants.{ToRead, ToReadFast, ToWrite}
+use Rattle.stages.specs.declared.stage.Stage.the-variants.{Upper, Lower, Dummy, Ready}
+use Rattle.stages.specs.declared.stage.What.the-variants.{Array}
 use Rattle.stages.specs.declared.bits.Taken.{Taken}
 use Rattle.stages.specs.declared.bits.Taken.the-variants.{Part, Whole}
 
@@ -51,25 +52,25 @@ take-sound shift si h = go (ltb (shifted shift si) 256) refl
     go true e = both (lt-ltb 0 (shifted shift si) some) e
     go false e = mod-lt (shifted shift si) (lit< tt)
 
--- of a data byte, whatever its level of /WP: a bit of it came
-abbrev pub DataTaken : Bool → Taken → Type 0
-DataTaken up (Part more) = (soundShift more ≡ true) × (soundWp up more ≡ true)
-DataTaken up (Whole byte) = byte < 2 ^ 8
+-- of a data byte: a bit of it came, so that its level of /WP is free
+abbrev pub DataTaken : Taken → Type 0
+DataTaken (Part more) = (soundShift more ≡ true) × (ltb noBits more ≡ true)
+DataTaken (Whole byte) = byte < 2 ^ 8
 
 doubled : (shift low : ℕ) → 0 < shift → 1 < shift * 2 + low
 doubled shift low h = omega arith
 
-pub data-sound : (up : Bool) (shift : ℕ) (si : Bool) → soundShift shift ≡ true → DataTaken up (takeBit shift si)
+pub data-sound : (shift : ℕ) (si : Bool) → soundShift shift ≡ true → DataTaken (takeBit shift si)
 unfolding takeBit
-data-sound up shift si h = go (ltb (shifted shift si) 256) refl
+data-sound shift si h = go (ltb (shifted shift si) 256) refl
   where
     begun : 1 < shifted shift si
     begun =
         rw (shifted-is shift si (ltb-true shift 256 (right (ltb 0 shift) (ltb shift 256) h)))
         (doubled shift (lowBit si) (ltb-true 0 shift (left (ltb 0 shift) (ltb shift 256) h)))
 
-    go : (t : Bool) → ltb (shifted shift si) 256 ≡ t → DataTaken up (cond t (Part (shifted shift si)) (Whole (shifted shift si % 256)))
-    go true e = (both (lt-ltb 0 (shifted shift si) (omega (arith, begun))) e, rw (lt-ltb 1 (shifted shift si) begun))
+    go : (t : Bool) → ltb (shifted shift si) 256 ≡ t → DataTaken (cond t (Part (shifted shift si)) (Whole (shifted shift si % 256)))
+    go true e = (both (lt-ltb 0 (shifted shift si) (omega (arith, begun))) e, lt-ltb 1 (shifted shift si) begun)
     go false e = mod-lt (shifted shift si) (lit< tt)
 
 module _ (f : Figure) (fair : Fair f) where
@@ -105,7 +106,12 @@ module _ (f : Figure) (fair : Fair f) where
       go true e = rw e
       go false e = rw (lt-ltb (codePage f code * 256) (f .size) (within (code-page code)))
 
-  pub after-address : (purpose : Purpose) (page : ℕ) {byte : ℕ} → page * 256 < f .size → byte < 2 ^ 8 → soundStage f (afterAddress purpose page byte) ≡ true
+  pub after-address : (purpose : Purpose) (page : ℕ) {byte : ℕ} → page * 256 < f .size → byte < 2 ^ 8 → soundStage f (afterAddress f purpose page byte) ≡ true
   unfolding afterAddress soundStage
   after-address ToRead page p h = lt-ltb _ _ (paged page p h)
+  after-address ToReadFast page {byte} p h = go (eqb (f .dummy) 1) refl
+    where
+      go : (t : Bool) → eqb (f .dummy) 1 ≡ t → soundStage f (cond t (Dummy noBits (page * 256 + byte)) (Ready Array (page * 256 + byte))) ≡ true
+      go true e = rw (e, lt-ltb _ _ (paged page p h))
+      go false e = lt-ltb _ _ (paged page p h)
   after-address ToWrite page p h = rw (lt-ltb _ _ (paged page p h))

@@ -1,7 +1,8 @@
--- /WP and the data byte under way (document 02, Wish 2). Assumes nothing.
+-- /WP and the data byte under way (document 02, Wishes 2 and 3). Assumes nothing.
 use Prim.Native.Nat.{ℕ}
-use mathlib.Core.Bool.{Bool, true, false, cond}
+use mathlib.Core.Bool.{Bool, true, false, cond, not, _&&_}
 use lib.Dec.{eqb}
+use Rattle.parts.specs.declared.figures.Figure.{Figure}
 use Rattle.stages.specs.Bits.{noBits}
 use Rattle.stages.specs.declared.stage.Came.{Came}
 use Rattle.stages.specs.declared.stage.Came.the-variants.{NoByte, NoByteLow, Bytes, BytesLow}
@@ -34,9 +35,13 @@ cameWith BytesLow wp = cond wp Bytes BytesLow
 abbrev pub atFirst : {A : Type 0} → ℕ → A → A → A
 atFirst shift reads remembers = cond (eqb shift noBits) reads remembers
 
+-- "its level at the fall of /S counts for the whole select", where the row says so; else the level has one form there: up
+unfoldable pub fallWp : Figure → Bool → Line
+fallWp f pin = cond (f .«wp_at_fall» && not pin) Down Up
+
 -- "This holds for WRITE and WRSR on all parts."
-unfoldable pub byteWp : Line → ℕ → Bool → Line
-byteWp wp shift pin = atFirst shift (lineOf pin) wp
+unfoldable pub byteWp : Figure → Line → ℕ → Bool → Line
+byteWp f wp shift pin = cond (f .«wp_at_fall») wp (atFirst shift (lineOf pin) wp)
 
 unfoldable pub byteCame : Came → ℕ → Bool → Came
 byteCame came shift pin = atFirst shift (cameWith came pin) came

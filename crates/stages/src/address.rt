@@ -47,14 +47,22 @@ pub fn upper_page(f: Figure, byte: u8) -> u32
 }
 
 // The stage after the whole address.
-pub fn addressed(purpose: Purpose, page: u32, byte: u8) -> Stage
-    ensures { λ r. ⌜ r ≡ afterAddress purpose page byte ⌝ }
+pub fn addressed(f: Figure, purpose: Purpose, page: u32, byte: u8) -> Stage
+    ensures { λ r. ⌜ r ≡ afterAddress f purpose page byte ⌝ }
 {
     let at = (page as usize) * 256 + (byte as usize);
     match purpose {
         Purpose::ToRead => Stage::Ready {
             what: What::Array,
             at,
+        },
+        Purpose::ToReadFast => if f.dummy == 1 {
+            Stage::Dummy { shift: NO_BITS, at }
+        } else {
+            Stage::Ready {
+                what: What::Array,
+                at,
+            }
         },
         Purpose::ToWrite => Stage::Writing {
             came: Came::NoByte,

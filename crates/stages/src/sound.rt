@@ -7,6 +7,7 @@ use crate::stage::What;
 use crate::wp::came_up;
 use crate::wp::is_up;
 use parts::figures::Figure;
+use parts::figures::IDENT;
 
 // Under eight bits after the 1.
 fn sound_shift(shift: u16) -> bool
@@ -22,6 +23,7 @@ fn shown_length(f: Figure, what: What) -> usize
     match what {
         What::Array => f.size,
         What::Status => 1,
+        What::Ident => IDENT,
     }
 }
 
@@ -31,16 +33,20 @@ pub fn sound_stage(f: Figure, stage: Stage) -> bool
 {
     match stage {
         Stage::Closed => true,
-        Stage::Code { shift } => sound_shift(shift),
+        Stage::Asleep => true,
+        Stage::Code { wp, shift } => sound_shift(shift) & (f.wp_at_fall | is_up(wp)),
         Stage::Upper { shift, .. } => (f.address_bytes == 2) & sound_shift(shift),
         Stage::Lower { shift, page, .. } => ((page as usize) * 256 < f.size) & sound_shift(shift),
+        Stage::Dummy { shift, at } => (f.dummy == 1) & (at < f.size) & sound_shift(shift),
         Stage::Ready { what, at } => at < shown_length(f, what),
         Stage::ArrayOut { bit, at, .. } => (at < f.size) & (bit < 8),
         Stage::StatusOut { bit, .. } => bit < 8,
+        Stage::IdentOut { bit, at, .. } => (at < IDENT) & (bit < 8),
         Stage::Writing { came, shift, at } => (at < f.size)
             & sound_shift(shift)
             & ((NO_BITS < shift) | came_up(came)),
-        Stage::Keeping { wp, shift } => sound_shift(shift) & ((NO_BITS < shift) | is_up(wp)),
+        Stage::Keeping { wp, shift } => sound_shift(shift)
+            & ((NO_BITS < shift) | (f.wp_at_fall | is_up(wp))),
         Stage::Over { .. } => true,
     }
 }

@@ -9,9 +9,10 @@ pub enum Line {
     Up,
 }
 
-// What a READ or a WRITE wants its address for.
+// What a READ, an FSTRD or a WRITE wants its address for.
 pub enum Purpose {
     ToRead,
+    ToReadFast,
     ToWrite,
 }
 
@@ -19,6 +20,7 @@ pub enum Purpose {
 pub enum What {
     Array,
     Status,
+    Ident,
 }
 
 // What of a WRITE's data came: nothing whole yet, or at least one whole byte; and, in one byte with it, whether /WP was low at
@@ -30,17 +32,23 @@ pub enum Came {
     BytesLow,
 }
 
-// What the close of a select does besides: nothing, or the latch drops.
+// What the close of a select does besides: nothing, or the latch drops, or the chip falls asleep.
 pub enum End {
     Quiet,
     Drops,
+    Sleeps,
 }
 
 // `shift` is the bits of a byte that came so far, the newest lowest, with a 1 before them: 1 is none yet.
+// The order of the cases is timed too (docs/SPEED.md): what part 4 alone has in a select stands last.
 pub enum Stage {
     // No select is open.
     Closed,
+    // No select is open, and the chip sleeps.
+    Asleep,
+    // The op-code. `wp` is /WP as it stood at the fall of /CS, where the part reads it there, else up.
     Code {
+        wp: Line,
         shift: u16,
     },
     // The upper address byte, where the part has two.
@@ -54,7 +62,7 @@ pub enum Stage {
         shift: u16,
         page: u32,
     },
-    // The header of a READ or RDSR is whole, and its first fall is still to come.
+    // The header is whole, and its first fall is still to come.
     Ready {
         what: What,
         at: usize,
@@ -70,7 +78,7 @@ pub enum Stage {
         bit: u16,
     },
     // A WRITE's data, and WRSR's first data byte. Each remembers /WP as it stood at the byte's first rise, up where no bit of
-    // one came.
+    // one came; WRSR's as it stood at the fall of /CS, where the part reads it there.
     Writing {
         came: Came,
         shift: u16,
@@ -83,5 +91,16 @@ pub enum Stage {
     // Nothing more happens in this select.
     Over {
         end: End,
+    },
+    // The dummy byte after an FSTRD's address, where the part has one.
+    Dummy {
+        shift: u16,
+        at: usize,
+    },
+    // A bit of the identification stands on SO.
+    IdentOut {
+        level: Line,
+        bit: u16,
+        at: usize,
     },
 }

@@ -1,9 +1,10 @@
-// /WP and the data byte under way (document 02, Wish 2).
+// /WP and the data byte under way (document 02, Wishes 2 and 3).
 ghost use mathlib.Core.Path.{_≡_};
-ghost use Rattle.stages.specs.Wp.{isUp, cameUp, cameWith, byteWp, byteCame};
+ghost use Rattle.stages.specs.Wp.{isUp, cameUp, cameWith, fallWp, byteWp, byteCame};
 use crate::bits::NO_BITS;
 use crate::stage::Came;
 use crate::stage::Line;
+use parts::figures::Figure;
 
 // Whether a level is up.
 pub fn is_up(line: Line) -> bool
@@ -39,10 +40,25 @@ fn came_with(came: Came, wp: bool) -> Came
     }
 }
 
-// The level that counts for WRSR's data byte: the pin's at the byte's first rise, from then on the one that was remembered.
-pub fn byte_wp(wp: Line, shift: u16, pin: bool) -> Line
-    ensures { λ r. ⌜ r ≡ byteWp wp shift pin ⌝ }
+// The level that is remembered at the fall of /CS: the pin's where the part reads it there, else up.
+pub fn fall_wp(f: Figure, pin: bool) -> Line
+    ensures { λ r. ⌜ r ≡ fallWp f pin ⌝ }
 {
+    if f.wp_at_fall & !pin {
+        Line::Down
+    } else {
+        Line::Up
+    }
+}
+
+// The level that counts for WRSR's data byte: the pin's at the byte's first rise, from then on the one that was remembered; on a
+// part that reads it at the fall of /CS, the one from there.
+pub fn byte_wp(f: Figure, wp: Line, shift: u16, pin: bool) -> Line
+    ensures { λ r. ⌜ r ≡ byteWp f wp shift pin ⌝ }
+{
+    if f.wp_at_fall {
+        return wp;
+    }
     if shift == NO_BITS {
         if pin { Line::Up } else { Line::Down }
     } else {

@@ -132,8 +132,8 @@ moved =
     ∷ moves (rest ∷ rest ∷ []) 1024 9 3 (withSck rest true ∷ withSck rest true ∷ [])
     ∷ moves (rest ∷ low ∷ off ∷ []) 1536 0 10 (off ∷ off ∷ off ∷ []) ∷ moves (off ∷ rest ∷ []) 1024 1 11 (rest ∷ rest ∷ [])
     -- /CS and /HOLD move the chip named
-    ∷ moves (rest ∷ rest ∷ []) 1024 0 0 (withStage rest false (Code noBits) ∷ rest ∷ [])
-    ∷ moves (rest ∷ rest ∷ []) 1024 1 0 (rest ∷ withStage rest false (Code noBits) ∷ [])
+    ∷ moves (rest ∷ rest ∷ []) 1024 0 0 (withStage rest false (Code Up noBits) ∷ rest ∷ [])
+    ∷ moves (rest ∷ rest ∷ []) 1024 1 0 (rest ∷ withStage rest false (Code Up noBits) ∷ [])
     ∷ moves (rest ∷ rest ∷ rest ∷ []) 1536 1 6 (rest ∷ withHold rest LowCsHigh ∷ rest ∷ [])
     -- a chip with no power hears nothing but 11, the others do
     ∷ moves (off ∷ rest ∷ []) 1024 0 5 (off ∷ withSi rest true ∷ [])

@@ -62,12 +62,12 @@ refusedEvents =
     -- 2 before 5, 4 before 2, 5 before 6
     ∷ refuses (atRest 1 0 true) 511 12 2 ∷ refuses (atRest 9 0 true) 511 12 4 ∷ refuses (withSck (atRest 1 0 true) true) 512 14 5
     -- "a part not 1 to 3, kept bits outside the mask"
-    ∷ refuses (atRest 0 0 true) 0 11 4 ∷ refuses (atRest 4 0 true) 512 11 4 ∷ refuses (atRest 1 0x01 true) 512 11 4
+    ∷ refuses (atRest 0 0 true) 0 11 4 ∷ refuses (atRest 5 0 true) 512 11 4 ∷ refuses (atRest 1 0x01 true) 512 11 4
     ∷ refuses (atRest 2 0x80 true) 512 11 4 ∷ refuses (atRest 3 0x8E true) 2048 11 4 ∷ refuses (atRest 3 0x8C true) 2048 11 0
     -- "power off in another form than the off state", field by field
     ∷ refuses (withSck (atRest 1 0 false) true) 512 0 4 ∷ refuses (withSi (atRest 1 0 false) true) 512 0 4
     ∷ refuses (withWp (atRest 1 0 false) false) 512 0 4 ∷ refuses (withHold (atRest 1 0 false) LowCsHigh) 512 0 4
-    ∷ refuses (withStage (atRest 1 0 false) false (Code noBits)) 512 0 4
+    ∷ refuses (withStage (atRest 1 0 false) false (Code Up noBits)) 512 0 4
     ∷ refuses (withStage (atRest 1 0 false) true (atRest 1 0 false .stage)) 512 0 4
     -- "an address not below the part's size"
     ∷ refuses (in1 (Writing NoByte noBits 512)) 512 11 4 ∷ refuses (in1 (Writing NoByte noBits 511)) 512 11 0
@@ -80,7 +80,7 @@ refusedEvents =
     ∷ refuses (in1 (Writing NoByteLow noBits 0)) 512 11 4 ∷ refuses (in1 (Writing NoByteLow 2 0)) 512 11 0
     ∷ refuses (in3 (Keeping Down noBits)) 2048 11 4 ∷ refuses (in3 (Keeping Down 3)) 2048 11 0
     -- "a partial byte or bit count that no number of clocks gives"
-    ∷ refuses (in1 (Code 0)) 512 11 4 ∷ refuses (in1 (Code 255)) 512 11 0 ∷ refuses (in1 (Code 256)) 512 11 4
+    ∷ refuses (in1 (Code Up 0)) 512 11 4 ∷ refuses (in1 (Code Up 255)) 512 11 0 ∷ refuses (in1 (Code Up 256)) 512 11 4
     ∷ refuses (in1 (Keeping Up 0)) 512 11 4 ∷ refuses (in1 (Keeping Up 256)) 512 11 4 ∷ refuses (in1 (Writing NoByte 256 0)) 512 11 4
     ∷ refuses (in1 (Lower ToRead 256 0)) 512 11 4 ∷ refuses (in3 (Upper ToRead 256)) 2048 11 4 ∷ refuses (in3 (Upper ToRead 255)) 2048 11 0
     ∷ refuses (in1 (Upper ToWrite noBits)) 512 11 4 ∷ refuses (in1 (ArrayOut Down 8 0)) 512 11 4 ∷ refuses (in1 (StatusOut Down 8)) 512 11 4
@@ -111,7 +111,7 @@ allPowered (c ∷ cs) = powersUp c (powerUp (c .part) (c .kept) (replicate (c .l
 -- "Power-up checks 1, 2, 3."
 unfoldable pub powerings : List Powering
 powerings =
-    fails 0 0 0 1 ∷ fails 4 0x01 511 1 ∷ fails 257 0 512 1
+    fails 0 0 0 1 ∷ fails 5 0x01 511 1 ∷ fails 257 0 512 1
     ∷ fails 1 0x01 511 2 ∷ fails 1 0 513 2 ∷ fails 2 0 2048 2 ∷ fails 3 0 512 2
     ∷ fails 1 0x01 512 3 ∷ fails 1 0x80 512 3 ∷ fails 2 0x80 512 3 ∷ fails 3 0x8D 2048 3 ∷ fails 1 256 512 3 ∷ fails 1 0x10C 512 3
     ∷ starts 1 0x0C 512 ∷ starts 2 0x08 512 ∷ starts 3 0x8C 2048
@@ -137,6 +137,6 @@ allFilled (c ∷ cs) =
 -- "Filling a fresh array with 00 checks 1, 2." "Lent memory stays at every refusal."
 unfoldable pub fillings : List Filling
 fillings =
-    fills 0 0 1 0xEE ∷ fills 4 511 1 0xEE ∷ fills 1 511 2 0xEE ∷ fills 2 513 2 0xEE ∷ fills 3 512 2 0xEE
+    fills 0 0 1 0xEE ∷ fills 5 511 1 0xEE ∷ fills 1 511 2 0xEE ∷ fills 2 513 2 0xEE ∷ fills 3 512 2 0xEE
     ∷ fills 1 512 0 0x00 ∷ fills 2 512 0 0x00 ∷ fills 3 2048 0 0x00
     ∷ []

@@ -56,14 +56,14 @@ unfoldable pub listings : List Listing
 listings =
     -- "It stops at the first refusal and gives its number, the count of events accepted and the state .. those made; later
     -- answer places stay": 6 with SCK high is refused, its own place stays, and 2 is not reached
-    listing up (0 ∷ 3 ∷ 6 ∷ 2 ∷ []) (9 ∷ 9 ∷ 9 ∷ 9 ∷ 9 ∷ []) 6 2 (withStage risen false (Code 2)) (2 ∷ 2 ∷ 9 ∷ 9 ∷ 9 ∷ []) 0
+    listing up (0 ∷ 3 ∷ 6 ∷ 2 ∷ []) (9 ∷ 9 ∷ 9 ∷ 9 ∷ 9 ∷ []) 6 2 (withStage risen false (Code Up 2)) (2 ∷ 2 ∷ 9 ∷ 9 ∷ 9 ∷ []) 0
     -- .. "and memory": the byte 55h was whole at its eighth rise, before the 12
     ∷ listing (withStage up true (Writing NoByte 0xAA 0)) (5 ∷ 3 ∷ 12 ∷ 2 ∷ []) (9 ∷ 9 ∷ 9 ∷ 9 ∷ []) 5 2
     (withStage (withSi risen true) true (Writing Bytes noBits 1)) (2 ∷ 2 ∷ 9 ∷ 9 ∷ []) 0x55
     -- "one SO level per event (0, 1, or 2 for released)": after the event, and bit 6 of 00 at the fall; the close releases SO
     ∷ listing (withStage up false (ArrayOut Up 7 0)) (4 ∷ 3 ∷ 2 ∷ 1 ∷ []) (9 ∷ 9 ∷ 9 ∷ 9 ∷ []) 0 4 up (1 ∷ 1 ∷ 0 ∷ 2 ∷ []) 0
     -- spare places stay
-    ∷ listing up (0 ∷ []) (9 ∷ 9 ∷ []) 0 1 (withStage up false (Code noBits)) (2 ∷ 9 ∷ []) 0
+    ∷ listing up (0 ∷ []) (9 ∷ 9 ∷ []) 0 1 (withStage up false (Code Up noBits)) (2 ∷ 9 ∷ []) 0
     -- 5 at the first event
     ∷ untouched up 512 (12 ∷ []) (7 ∷ []) 5
     -- "checked first even for an empty list: 4, 2, then 12, answer slice shorter than the event slice": before 5

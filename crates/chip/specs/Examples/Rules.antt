@@ -19,16 +19,16 @@ use Rattle.pins.specs.declared.state.State.{State}
 use Rattle.chip.specs.Examples.Run.{Example, accepts, writes, idle, wpLow, begins, transfer, clocks, wren}
 
 -- some event is refused, or SO is driven at the end
-abbrev refuses : List ℕ → Example → Example
+abbrev pub refuses : List ℕ → Example → Example
 refuses refusals e =
     record { part = e .part; kept = e .kept; events = e .events; refusals = refusals; notes = e .notes; shown = e .shown; so = e .so; state = e .state }
 
-abbrev drives : ℕ → Example → Example
+abbrev pub drives : ℕ → Example → Example
 drives so e =
     record { part = e .part; kept = e .kept; events = e .events; refusals = e .refusals; notes = e .notes; shown = e .shown; so = so; state = e .state }
 
 -- WREN, then a WRITE of 11 22: what is noted of each byte
-abbrev two : ℕ → ℕ → List ℕ → Note → Note → Example
+abbrev pub two : ℕ → ℕ → List ℕ → Note → Note → Example
 two part kept header first second =
     writes part kept
     (wren ++ transfer (header ++ 0x11 ∷ 0x22 ∷ []))
@@ -36,17 +36,17 @@ two part kept header first second =
     (idle part kept false false)
 
 -- WREN, then a WRSR of an even byte: what is noted of it, and the kept bits after
-abbrev status : ℕ → ℕ → ℕ → Note → ℕ → Example
+abbrev pub status : ℕ → ℕ → ℕ → Note → ℕ → Example
 status part kept byte note after =
     writes part kept (wren ++ transfer (0x01 ∷ byte ∷ [])) (Latch true ∷ note ∷ Latch false ∷ []) (idle part after false false)
 
 -- the same with /WP low from the start
-abbrev low : Example → Example
+abbrev pub low : Example → Example
 low e =
     record { part = e .part; kept = e .kept; events = 8 ∷ e .events; refusals = e .refusals; notes = e .notes; shown = e .shown; so = e .so; state = wpLow (e .state) }
 
 -- RDSR of one byte
-abbrev rdsr : List ℕ
+abbrev pub rdsr : List ℕ
 rdsr = transfer (0x05 ∷ 0x00 ∷ [])
 
 -- "Setting a pin to the level it has is accepted and has no effect." The power; "the off state".
@@ -122,7 +122,7 @@ abbrev eighth : List ℕ
 eighth = begins (0x05 ∷ []) ++ clocks 7 0x00 ++ 4 ∷ 3 ∷ []
 
 -- 11 22 written over the end, and read back
-abbrev rolls : ℕ → List ℕ → List ℕ → ℕ → Example
+abbrev pub rolls : ℕ → List ℕ → List ℕ → ℕ → Example
 rolls part write read last =
     accepts part 0
     (wren ++ transfer (write ++ 0x11 ∷ 0x22 ∷ []) ++ transfer (read ++ 0x00 ∷ 0x00 ∷ []))

@@ -11,15 +11,15 @@ use Rattle.parts.specs.Figures.{figureOf}
 use Rattle.stages.specs.Bits.{lowBit}
 use Rattle.stages.specs.declared.stage.Came.{Came}
 use Rattle.stages.specs.declared.stage.Came.the-variants.{NoByte, NoByteLow, Bytes, BytesLow}
-use Rattle.stages.specs.declared.stage.End.the-variants.{Quiet, Drops}
+use Rattle.stages.specs.declared.stage.End.the-variants.{Quiet, Drops, Sleeps}
 use Rattle.stages.specs.declared.stage.Line.{Line}
 use Rattle.stages.specs.declared.stage.Line.the-variants.{Down, Up}
 use Rattle.stages.specs.declared.stage.Purpose.{Purpose}
-use Rattle.stages.specs.declared.stage.Purpose.the-variants.{ToRead, ToWrite}
+use Rattle.stages.specs.declared.stage.Purpose.the-variants.{ToRead, ToReadFast, ToWrite}
 use Rattle.stages.specs.declared.stage.Stage.{Stage}
-use Rattle.stages.specs.declared.stage.Stage.the-variants.{Closed, Code, Upper, Lower, Ready, ArrayOut, StatusOut, Writing, Keeping, Over}
+use Rattle.stages.specs.declared.stage.Stage.the-variants.{Closed, Code, Upper, Lower, Ready, ArrayOut, StatusOut, Writing, Keeping, Over, Dummy, IdentOut, Asleep}
 use Rattle.stages.specs.declared.stage.What.{What}
-use Rattle.stages.specs.declared.stage.What.the-variants.{Array, Status}
+use Rattle.stages.specs.declared.stage.What.the-variants.{Array, Status, Ident}
 use Rattle.select.specs.Notes.{NoteNumbers, levelNumber, noteNumbers}
 use Rattle.select.specs.declared.notes.Note.{Note}
 use Rattle.pins.specs.Edges.{withSi, withWp, withStage}
@@ -142,10 +142,12 @@ numbersOf (note ∷ notes) = noteThen (noteNumbers note) (numbersOf notes)
 abbrev pub whatNumber : What → ℕ
 whatNumber Array = 0
 whatNumber Status = 1
+whatNumber Ident = 2
 
 abbrev pub purposeNumber : Purpose → ℕ
 purposeNumber ToRead = 0
 purposeNumber ToWrite = 1
+purposeNumber ToReadFast = 2
 
 abbrev pub lineNumber : Line → ℕ
 lineNumber Down = 0
@@ -159,7 +161,7 @@ cameNumber BytesLow = 3
 
 abbrev pub stageNumbers : Stage → List ℕ
 stageNumbers Closed = 0 ∷ []
-stageNumbers (Code shift) = 1 ∷ shift ∷ []
+stageNumbers (Code wp shift) = 1 ∷ lineNumber wp ∷ shift ∷ []
 stageNumbers (Upper purpose shift) = 2 ∷ purposeNumber purpose ∷ shift ∷ []
 stageNumbers (Lower purpose shift page) = 3 ∷ purposeNumber purpose ∷ shift ∷ page ∷ []
 stageNumbers (Ready what at) = 4 ∷ whatNumber what ∷ at ∷ []
@@ -169,6 +171,10 @@ stageNumbers (Writing came shift at) = 7 ∷ cameNumber came ∷ shift ∷ at �
 stageNumbers (Keeping wp shift) = 8 ∷ lineNumber wp ∷ shift ∷ []
 stageNumbers (Over Quiet) = 9 ∷ []
 stageNumbers (Over Drops) = 10 ∷ []
+stageNumbers (Over Sleeps) = 11 ∷ []
+stageNumbers (Dummy shift at) = 12 ∷ shift ∷ at ∷ []
+stageNumbers (IdentOut level bit at) = 13 ∷ lineNumber level ∷ bit ∷ at ∷ []
+stageNumbers Asleep = 14 ∷ []
 
 abbrev pub holdNumber : Hold → ℕ
 holdNumber High = 0

@@ -97,20 +97,20 @@ bytes-whole r cs h = rw (length-append r cs, h, eight-more (length cs), take-at 
     eight-more n = omega arith
 
 -- how the bits so far are read, whatever bits follow: by their whole bytes, and the bits that are left
-pub record Cut (f : Figure) (bs : List Bit) (read : List Byte → Reading) (r : List Bit) : Type 0 where
+pub record Cut (f : Figure) (fell : Bool) (bs : List Bit) (read : List Byte → Reading) (r : List Bit) : Type 0 where
   pub short : length r < 8
-  pub cut : (cs : List Bit) → readTransfer f (wholeBytes (bs ++ cs)) ≡ read (wholeBytes (r ++ cs))
+  pub cut : (cs : List Bit) → readTransfer f fell (wholeBytes (bs ++ cs)) ≡ read (wholeBytes (r ++ cs))
 
-module _ (f : Figure) where
-  pub cut-none : Cut f [] (readTransfer f) []
+module _ (f : Figure) (fell : Bool) where
+  pub cut-none : Cut f fell [] (readTransfer f fell) []
   cut-none = record { short = omega arith; cut = λ cs. refl }
 
-  pub cut-bytes : {bs : List Bit} {read : List Byte → Reading} {r : List Bit} → Cut f bs read r → readTransfer f (wholeBytes bs) ≡ read []
+  pub cut-bytes : {bs : List Bit} {read : List Byte → Reading} {r : List Bit} → Cut f fell bs read r → readTransfer f fell (wholeBytes bs) ≡ read []
   cut-bytes {r = r} c = simp (append-nil, bytes-short r (c .short)) at (c .cut [])
 
   pub cut-part :
-      {bs : List Bit} {read : List Byte → Reading} {r : List Bit} (b : Bit) → Cut f bs read r → length r < 7
-      → Cut f (bs ++ b ∷ []) read (r ++ b ∷ [])
+      {bs : List Bit} {read : List Byte → Reading} {r : List Bit} (b : Bit) → Cut f fell bs read r → length r < 7
+      → Cut f fell (bs ++ b ∷ []) read (r ++ b ∷ [])
   cut-part b c h =
       record {
         short = simp length-append (omega arith);
@@ -142,9 +142,9 @@ wp-whole [] b h = absurd (eqb-false 0 7 refl h)
 wp-whole (x ∷ xs) b h = (shift-begun x xs, refl)
 
 pub cut-whole :
-    (f : Figure) {bs : List Bit} {read : List Byte → Reading} {r : List Bit} (b : Bit) → Cut f bs read r → length r ≡ 7
-    → Cut f (bs ++ b ∷ []) (λ more. read (byte (r ++ b ∷ []) ∷ more)) []
-cut-whole f {read = read} {r = r} b c h =
+    (f : Figure) (fell : Bool) {bs : List Bit} {read : List Byte → Reading} {r : List Bit} (b : Bit) → Cut f fell bs read r → length r ≡ 7
+    → Cut f fell (bs ++ b ∷ []) (λ more. read (byte (r ++ b ∷ []) ∷ more)) []
+cut-whole f fell {read = read} {r = r} b c h =
     record {
       short = omega arith;
       cut = λ cs. simp append-assoc (c .cut (b ∷ cs) ∙ ap read (first cs));

@@ -27,7 +27,7 @@ use Rattle.history.specs.History.{World, history}
 use Rattle.history.specs.Run.{worldOf}
 use Rattle.history.specs.Laws.Place.{Place, outside, worldAt, placeAfter, base, from, from-now, from-next}
 use Rattle.history.specs.Laws.Select.{closed, select-world}
-use Rattle.history.specs.Laws.Step.{Agrees, off, on, asleep, offChip, Onward, follows, refuses}
+use Rattle.history.specs.Laws.Step.{Agrees, off, on, unlatched, offChip, Onward, follows, refuses}
 
 -- an event that the checks let through, and one that they don't know
 module _ (xs : List ℕ) (s : State) (good : sound s ≡ true) (fits : length xs ≡ figureOf (s .part) .size) (code : ℕ) where
@@ -112,7 +112,7 @@ module _ (part : ℕ) (fair : Fair (figureOf part)) {l : Wire} {p : Place} {w : 
 
   pub moment-next :
       (code : ℕ)
-      → Moment part (afterOne l code) (placeAfter p (act l code)) (base (figureOf part) w p (act l code)) (next c code)
+      → Moment part (afterOne l code) (placeAfter (figureOf part) p (act l code)) (base (figureOf part) w p (act l code)) (next c code)
   moment-next code =
       record {
         agrees = agrees-next code;
@@ -145,17 +145,17 @@ reached part fair {l} {p} {w} {c} m (code ∷ codes) =
 -- from power-up on
 pub reached-from :
     (part kept : ℕ) (array : List ℕ) → isPart part ≡ true → inMask part kept ≡ true → length array ≡ figureOf part .size
-    → (codes : List ℕ) → Reached part (rest true) outside (asleep kept array) (poweredUp part kept array) codes
+    → (codes : List ℕ) → Reached part (rest true) (outside false) (unlatched kept array) (poweredUp part kept array) codes
 reached-from part kept array one under fits =
     reached part (fair part one)
     (record {
-      agrees = on outside (asleep kept array) (asleep kept array) false false true High Closed closed;
+      agrees = on (outside false) (unlatched kept array) (unlatched kept array) false false true High Closed (closed false);
       good = rest-sound part kept true one under;
       fits = fits;
     })
 
 pub world-told :
-    (part kept : ℕ) (array codes : List ℕ) → Reached part (rest true) outside (asleep kept array) (poweredUp part kept array) codes
+    (part kept : ℕ) (array codes : List ℕ) → Reached part (rest true) (outside false) (unlatched kept array) (poweredUp part kept array) codes
     → worldOf (run (poweredUp part kept array) codes) ≡ history part kept array codes
 unfolding history from
 world-told part kept array codes r = world-of (r .moment .agrees) ∙ sym (r .told)

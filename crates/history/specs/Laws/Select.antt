@@ -2,7 +2,7 @@
 -- does to the history. Assumes nothing.
 use Prim.Native.Nat.{ℕ, _≤_, _<_}
 use native.Mathlib.Omega.{arith}
-use mathlib.Core.Bool.{Bool, true, false, cond}
+use mathlib.Core.Bool.{Bool, true, false, cond, not, _&&_}
 use mathlib.Core.List.{List, [], _∷_, _++_}
 use mathlib.Core.Path.{_≡_, refl, ap}
 use lib.ListN.{length}
@@ -10,58 +10,95 @@ use lib.Dec.{leb}
 use borrow.Author.Tests.{leb-true, leb-false}
 use Rattle.parts.specs.FigureLaws.{Fair}
 use Rattle.parts.specs.declared.figures.Figure.{Figure}
-use Rattle.stages.specs.Bits.{noBits}
 use Rattle.stages.specs.Close as close
+use Rattle.stages.specs.Close.{afterFall}
+use Rattle.stages.specs.Wp.{lineOf, fallWp}
 use Rattle.select.specs.Fall.{fall}
 use Rattle.select.specs.Rise.{rise}
 use Rattle.select.specs.declared.rise.Risen.{Risen}
 use Rattle.stages.specs.declared.stage.Stage.{Stage}
-use Rattle.stages.specs.declared.stage.Stage.the-variants.{Closed, Code}
+use Rattle.stages.specs.declared.stage.Stage.the-variants.{Over}
+use Rattle.stages.specs.declared.stage.End.the-variants.{Quiet}
+use Rattle.stages.specs.declared.stage.Line.the-variants.{Down, Up}
+use Rattle.chip.specs.Event.{written}
 use Rattle.history.specs.Wire.{Bit, closes}
 use Rattle.history.specs.Bytes.{Byte, byte, Reading, bitsValue, readTransfer}
 use Rattle.history.specs.History.{World, withLatch, effect, latchDrops}
 use Rattle.history.specs.Laws.Bytes.{Cut, cut-none, cut-bytes, cut-part, cut-whole, shiftOf, taken-part, taken-whole, value-whole, wpOf, wp-part, wp-whole}
-use Rattle.history.specs.Laws.Stage.{Image, code, image-open, image-drops, image-fall}
+use Rattle.history.specs.Laws.Stage.{shutStage, ends-drops, ends-asleep, wrsrLine, Image, code, image-open, image-ends, image-fall}
 use Rattle.history.specs.Laws.Rise.{seenIn, risenWorld, part-rise, whole-rise}
-use Rattle.history.specs.Laws.Place.{Place, outside, inside, isOutside, worldAt, base}
+use Rattle.history.specs.Laws.Place.{Place, outside, inside, isOutside, worldAt, asleepAfter, base}
 
 -- the select of a chip over the history's place: `w` is the world before the open transfer, `v` the world now
 pub data Selected (f : Figure) (w : World) : Place → World → Stage → Type 0 where
-  closed : Selected f w outside w Closed
+  closed : (asleep : Bool) → Selected f w (outside asleep) w (shutStage asleep)
+  waking : {fell : Bool} {bs : List Bit} → Selected f w (inside true fell bs) w (Over Quiet)
   going :
-      {bs : List Bit} {v : World} {stage : Stage} (read : List Byte → Reading) (r : List Bit)
-      → Cut f bs read r → v ≡ effect f w (read []) → Image f (shiftOf r) (wpOf r) read stage → Selected f w (inside bs) v stage
+      {fell : Bool} {bs : List Bit} {v : World} {stage : Stage} (read : List Byte → Reading) (r : List Bit)
+      → Cut f fell bs read r → v ≡ effect f w (read []) → Image f (shiftOf r) (wpOf r) read stage → Selected f w (inside false fell bs) v stage
+
+-- what the fall of /CS remembers is the level that a status byte has before its first bit
+fall-line : (f : Figure) (fell : Bool) → fallWp f fell ≡ wrsrLine f fell true
+unfolding fallWp
+fall-line f fell = go (f .«wp_at_fall») fell
+  where
+    go : (t u : Bool) → cond (t && not u) Down Up ≡ lineOf (cond t u true)
+    go true true = refl
+    go true false = refl
+    go false u = refl
 
 module _ (f : Figure) (w : World) where
   pub select-open : {p : Place} {v : World} {stage : Stage} → Selected f w p v stage → close.isClosed stage ≡ isOutside p
-  select-open closed = refl
+  select-open (closed true) = refl
+  select-open (closed false) = refl
+  select-open waking = refl
   select-open (going read r c e i) = image-open f i
 
   pub select-world : {p : Place} {v : World} {stage : Stage} → Selected f w p v stage → v ≡ worldAt f w p
   unfolding worldAt
-  select-world closed = refl
-  select-world (going read r c e i) = rw (cut-bytes f c) e
+  select-world (closed asleep) = refl
+  select-world waking = refl
+  select-world (going {fell = fell} read r c e i) = rw (cut-bytes f fell c) e
 
   pub select-fall :
       (xs : List ℕ) (status : ℕ) {p : Place} {v : World} {stage : Stage}
       → Selected f w p v stage → Selected f w p v (fall f xs status stage)
   unfolding fall
-  select-fall xs status closed = closed
+  select-fall xs status (closed true) = closed true
+  select-fall xs status (closed false) = closed false
+  select-fall xs status waking = waking
   select-fall xs status (going read r c e i) = going read r c e (image-fall f xs status i)
 
   -- a select that just opened
-  pub select-fresh : Selected f w (inside []) w (Code noBits)
-  unfolding effect readTransfer bitsValue
-  select-fresh = going (readTransfer f) [] (cut-none f) refl code
+  pub select-fresh : (asleep fell : Bool) → Selected f w (inside asleep fell []) w (afterFall f fell (shutStage asleep))
+  unfolding afterFall effect readTransfer bitsValue
+  select-fresh true fell = waking
+  select-fresh false fell = rw (fall-line f fell) (going (readTransfer f fell) [] (cut-none f fell) refl (code fell))
+
+  -- a seen rise of /CS
+  pub select-close :
+      {woken fell : Bool} {bs : List Bit} {v : World} {stage : Stage} → Selected f w (inside woken fell bs) v stage
+      → cond (close.drops stage) (withLatch v false) v ≡ base f w (inside woken fell bs) closes
+  unfolding base
+  select-close waking = refl
+  select-close {fell = fell} (going read r c e i) =
+      rw (image-ends f i, ends-drops (read []), cut-bytes f fell c) (ap (λ (u : World). cond (latchDrops (read [])) (withLatch u false) u) e)
+
+  pub select-shut :
+      {woken fell : Bool} {bs : List Bit} {v : World} {stage : Stage} → Selected f w (inside woken fell bs) v stage
+      → close.afterClose stage ≡ shutStage (asleepAfter f woken fell bs)
+  select-shut waking = refl
+  select-shut {fell = fell} (going read r c e i) = rw (image-ends f i, ends-asleep (read []), cut-bytes f fell c)
 
 module _ (f : Figure) (fair : Fair f) (w : World) where
   -- a seen rise of SCK: the bit joins those of the byte that is left, or makes it whole
   pub select-rise :
-      (b : Bit) {bs : List Bit} {v : World} {stage : Stage} → Selected f w (inside bs) v stage
-      → Selected f w (inside (bs ++ b ∷ [])) (risenWorld v (rise f (seenIn v (b .wp) (b .si)) stage))
+      (b : Bit) {woken fell : Bool} {bs : List Bit} {v : World} {stage : Stage} → Selected f w (inside woken fell bs) v stage
+      → Selected f w (inside woken fell (bs ++ b ∷ [])) (risenWorld v (rise f (seenIn v (b .wp) (b .si)) stage))
       (rise f (seenIn v (b .wp) (b .si)) stage .stage)
-  unfolding bitsValue wpOf
-  select-rise b {bs} {v} {stage} (going read r c e i) = go (leb 7 (length r)) refl
+  unfolding bitsValue wpOf rise written
+  select-rise b waking = waking
+  select-rise b {fell = fell} {bs} {v} {stage} (going read r c e i) = go (leb 7 (length r)) refl
     where
       risen : Risen
       risen = rise f (seenIn v (b .wp) (b .si)) stage
@@ -72,21 +109,13 @@ module _ (f : Figure) (fair : Fair f) (w : World) where
       whole : Byte
       whole = byte (r ++ b ∷ [])
 
-      go : (t : Bool) → leb 7 (length r) ≡ t → Selected f w (inside (bs ++ b ∷ [])) (risenWorld v risen) (risen .stage)
+      go : (t : Bool) → leb 7 (length r) ≡ t → Selected f w (inside false fell (bs ++ b ∷ [])) (risenWorld v risen) (risen .stage)
       go true q =
           let h : length r ≡ 7 = seventh (leb-true 7 (length r) q) (c .short) in
           let k = wp-whole r b h in
           let l = whole-rise f fair w v (shiftOf r) (b .wp) (b .si) whole (value-whole r b h) (taken-whole r b h) (k .0) e (rw (k .1) at i) in
-          going (λ more. read (whole ∷ more)) [] (cut-whole f b c h) (l .world) (l .image)
+          going (λ more. read (whole ∷ more)) [] (cut-whole f fell b c h) (l .world) (l .image)
       go false q =
           let h : length r < 7 = leb-false 7 (length r) q in
           let l = part-rise f w v (shiftOf r) (shiftOf (r ++ b ∷ [])) (wpOf r) (b .wp) (b .si) (taken-part r b h) e i in
-          going read (r ++ b ∷ []) (cut-part f b c h) (l .world) (rw (wp-part r b) at (l .image))
-
-  -- a seen rise of /CS
-  pub select-close :
-      {bs : List Bit} {v : World} {stage : Stage} → Selected f w (inside bs) v stage
-      → cond (close.drops stage) (withLatch v false) v ≡ base f w (inside bs) closes
-  unfolding base
-  select-close (going read r c e i) =
-      rw (image-drops f i, cut-bytes f c) (ap (λ (u : World). cond (latchDrops (read [])) (withLatch u false) u) e)
+          going read (r ++ b ∷ []) (cut-part f fell b c h) (l .world) (rw (wp-part r b) at (l .image))

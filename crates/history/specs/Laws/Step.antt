@@ -14,7 +14,7 @@ use Rattle.select.specs.Fall.{statusByte}
 use Rattle.select.specs.Rise.{rise}
 use Rattle.select.specs.declared.notes.Note.the-variants.{Latch}
 use Rattle.stages.specs.declared.stage.Stage.{Stage}
-use Rattle.stages.specs.declared.stage.Stage.the-variants.{Closed}
+use Rattle.stages.specs.declared.stage.Stage.the-variants.{Closed, Asleep}
 use Rattle.pins.specs.Levels.{atRest, holdHigh}
 use Rattle.pins.specs.Edges.{silent, csFall, csRise, sckRise, sckFall, holdFall, holdRise}
 use Rattle.chip.specs.Event.{accepted, answerOf, csStayed, live, step, written}
@@ -23,8 +23,9 @@ use Rattle.pins.specs.declared.hold.Hold.{Hold}
 use Rattle.pins.specs.declared.hold.Hold.the-variants.{High, LowCsLow, LowCsHigh}
 use Rattle.history.specs.Wire.{Wire, rest, put, refusal, afterOne, act}
 use Rattle.history.specs.History.{World}
-use Rattle.history.specs.Laws.Place.{Place, outside, inside, isOutside, worldAt, placeAfter, base}
-use Rattle.history.specs.Laws.Select.{Selected, closed, select-open, select-world, select-fall, select-fresh, select-rise, select-close}
+use Rattle.history.specs.Laws.Place.{Place, outside, inside, isOutside, worldAt, asleepAfter, placeAfter, base}
+use Rattle.history.specs.Laws.Stage.{shutStage}
+use Rattle.history.specs.Laws.Select.{Selected, closed, select-open, select-world, select-fall, select-fresh, select-rise, select-close, select-shut}
 
 -- the level of /CS, by /HOLD and whether no select is open
 abbrev csOf : Hold → Bool → Bool
@@ -55,8 +56,8 @@ chipOf part v sck si wp hold stage =
     }
 
 -- the world with the latch off, and the chip with power off
-abbrev pub asleep : ℕ → List ℕ → World
-asleep kept array = record { latch = false; kept = kept; array = array }
+abbrev pub unlatched : ℕ → List ℕ → World
+unlatched kept array = record { latch = false; kept = kept; array = array }
 
 abbrev pub offChip : ℕ → ℕ → List ℕ → Chip
 offChip part kept array = record { state = atRest part kept false; array = array }
@@ -65,7 +66,7 @@ offChip part kept array = record { state = atRest part kept false; array = array
 pub data Agrees (part : ℕ) : Wire → Place → World → Chip → Type 0 where
   off :
       (kept : ℕ) (array : List ℕ)
-      → Agrees part (rest false) outside (asleep kept array) (offChip part kept array)
+      → Agrees part (rest false) (outside false) (unlatched kept array) (offChip part kept array)
   on :
       (p : Place) (w v : World) (sck si wp : Bool) (hold : Hold) (stage : Stage) → Selected (figureOf part) w p v stage
       → Agrees part (wireOf sck si wp hold (isOutside p)) p w (chipOf part v sck si wp hold stage)
@@ -73,7 +74,7 @@ pub data Agrees (part : ℕ) : Wire → Place → World → Chip → Type 0 wher
 -- this chip agrees after an event
 abbrev pub Onward : ℕ → Wire → Place → World → ℕ → Chip → Type 0
 Onward part l p w code c =
-    Agrees part (afterOne l code) (placeAfter p (act l code)) (base (figureOf part) w p (act l code)) c
+    Agrees part (afterOne l code) (placeAfter (figureOf part) p (act l code)) (base (figureOf part) w p (act l code)) c
 
 -- what holds of each of the twelve codes holds of every code under twelve
 abbrev Each : (ℕ → Type 0) → ℕ → ℕ → Type 0
@@ -109,34 +110,41 @@ module _ (part : ℕ) (fair : Fair (figureOf part)) where
 
     cs-low : After 0
     unfolding afterOne refusal put act placeAfter base worldAt step live csFall written
-    cs-low sck High outside _ _ closed = on (inside []) w w sck si wp High _ (select-fresh (figureOf part) w)
-    cs-low sck High (inside bs) v stage s =
-        rw (select-open (figureOf part) w s) (on (inside bs) w v sck si wp High stage s)
+    cs-low sck High (outside _) _ _ (closed asleep) =
+        rw (select-open (figureOf part) w (closed asleep))
+        (on (inside asleep wp []) w w sck si wp High _ (select-fresh (figureOf part) w asleep wp))
+    cs-low sck High (inside woken fell bs) v stage s =
+        rw (select-open (figureOf part) w s) (on (inside woken fell bs) w v sck si wp High stage s)
     cs-low sck LowCsLow p v stage s = on p w v sck si wp LowCsLow stage s
     cs-low sck LowCsHigh p v stage s = on p w v sck si wp LowCsLow stage s
 
-    -- the close drops the latch, if it was set
-    abbrev shut : Bool → Bool → ℕ → List ℕ → Chip
-    shut sck latch kept array = chipOf part (record { latch = latch; kept = kept; array = array }) sck si wp High Closed
+    -- the close drops the latch, if it was set, and puts the chip to sleep or not
+    abbrev shut : Bool → Bool → Bool → ℕ → List ℕ → Chip
+    shut asleep sck latch kept array =
+        chipOf part (record { latch = latch; kept = kept; array = array }) sck si wp High (shutStage asleep)
 
     closing :
-        (sck latch d : Bool) (kept : ℕ) (array : List ℕ)
-        → Agrees part (wireOf sck si wp High true) outside
-        (cond d (asleep kept array) (record { latch = latch; kept = kept; array = array }))
-        (answered (shut sck latch kept array)
-        (answerOf (accepted (cond (latch && d) (record { state = shut sck false kept array .state; note = Latch false }) (silent (shut sck latch kept array .state))))))
+        (asleep sck latch d : Bool) (kept : ℕ) (array : List ℕ)
+        → Agrees part (wireOf sck si wp High true) (outside asleep)
+        (cond d (unlatched kept array) (record { latch = latch; kept = kept; array = array }))
+        (answered (shut asleep sck latch kept array)
+        (answerOf (accepted
+        (cond (latch && d)
+        (record { state = shut asleep sck false kept array .state; note = Latch false })
+        (silent (shut asleep sck latch kept array .state))))))
     unfolding written
-    closing sck true true kept array = on outside _ _ sck si wp High Closed closed
-    closing sck true false kept array = on outside _ _ sck si wp High Closed closed
-    closing sck false true kept array = on outside _ _ sck si wp High Closed closed
-    closing sck false false kept array = on outside _ _ sck si wp High Closed closed
+    closing asleep sck true true kept array = on (outside asleep) _ _ sck si wp High _ (closed asleep)
+    closing asleep sck true false kept array = on (outside asleep) _ _ sck si wp High _ (closed asleep)
+    closing asleep sck false true kept array = on (outside asleep) _ _ sck si wp High _ (closed asleep)
+    closing asleep sck false false kept array = on (outside asleep) _ _ sck si wp High _ (closed asleep)
 
     cs-high : After 1
     unfolding afterOne refusal put act placeAfter base step live csRise written
-    cs-high sck High outside _ _ closed = on outside w w sck si wp High Closed closed
-    cs-high sck High (inside bs) v stage s =
-        rw (select-open (figureOf part) w s, ← select-close (figureOf part) fair w s)
-        (closing sck (v .latch) (drops stage) (v .kept) (v .array))
+    cs-high sck High (outside asleep) v stage s =
+        rw (select-open (figureOf part) w s) (on (outside asleep) w v sck si wp High stage s)
+    cs-high sck High (inside woken fell bs) v stage s =
+        rw (select-open (figureOf part) w s, ← select-close (figureOf part) w s, select-shut (figureOf part) w s)
+        (closing (asleepAfter (figureOf part) woken fell bs) sck (v .latch) (drops stage) (v .kept) (v .array))
     cs-high sck LowCsLow p v stage s = on p w v sck si wp LowCsHigh stage s
     cs-high sck LowCsHigh p v stage s = on p w v sck si wp LowCsHigh stage s
 
@@ -150,8 +158,9 @@ module _ (part : ℕ) (fair : Fair (figureOf part)) where
 
     sck-high : After 3
     unfolding afterOne refusal put act placeAfter base step live sckRise rise written
-    sck-high false High outside _ _ closed = on outside w w true si wp High Closed closed
-    sck-high false High (inside bs) v stage s =
+    sck-high false High (outside true) _ _ (closed true) = on (outside true) w w true si wp High Asleep (closed true)
+    sck-high false High (outside false) _ _ (closed false) = on (outside false) w w true si wp High Closed (closed false)
+    sck-high false High (inside woken fell bs) v stage s =
         on _ w _ true si wp High _ (select-rise (figureOf part) fair w (record { si = si; wp = wp }) s)
     sck-high false LowCsLow p v stage s = on p w v true si wp LowCsLow stage s
     sck-high false LowCsHigh p v stage s = on p w v true si wp LowCsHigh stage s
@@ -160,9 +169,10 @@ module _ (part : ℕ) (fair : Fair (figureOf part)) where
     hold-low : After 6
     unfolding afterOne refusal put act placeAfter base step live holdFall written
     hold-low true High p v stage s = on p w v true si wp High stage s
-    hold-low false High outside _ _ closed = on outside w w false si wp LowCsHigh Closed closed
-    hold-low false High (inside bs) v stage s =
-        rw (select-open (figureOf part) w s) (on (inside bs) w v false si wp LowCsLow stage s)
+    hold-low false High (outside asleep) v stage s =
+        rw (select-open (figureOf part) w s) (on (outside asleep) w v false si wp LowCsHigh stage s)
+    hold-low false High (inside woken fell bs) v stage s =
+        rw (select-open (figureOf part) w s) (on (inside woken fell bs) w v false si wp LowCsLow stage s)
     hold-low sck LowCsLow p v stage s = on p w v sck si wp LowCsLow stage s
     hold-low sck LowCsHigh p v stage s = on p w v sck si wp LowCsHigh stage s
 
@@ -171,12 +181,14 @@ module _ (part : ℕ) (fair : Fair (figureOf part)) where
     hold-high sck High p v stage s = on p w v sck si wp High stage s
     hold-high true LowCsLow p v stage s = on p w v true si wp LowCsLow stage s
     hold-high true LowCsHigh p v stage s = on p w v true si wp LowCsHigh stage s
-    hold-high false LowCsLow outside _ _ closed = on outside w w false si wp LowCsLow Closed closed
-    hold-high false LowCsHigh outside _ _ closed = on outside w w false si wp High Closed closed
-    hold-high false LowCsLow (inside bs) v stage s =
-        rw (select-open (figureOf part) w s) (on (inside bs) w v false si wp High stage s)
-    hold-high false LowCsHigh (inside bs) v stage s =
-        rw (select-open (figureOf part) w s) (on (inside bs) w v false si wp LowCsHigh stage s)
+    hold-high false LowCsLow (outside asleep) v stage s =
+        rw (select-open (figureOf part) w s) (on (outside asleep) w v false si wp LowCsLow stage s)
+    hold-high false LowCsHigh (outside asleep) v stage s =
+        rw (select-open (figureOf part) w s) (on (outside asleep) w v false si wp High stage s)
+    hold-high false LowCsLow (inside woken fell bs) v stage s =
+        rw (select-open (figureOf part) w s) (on (inside woken fell bs) w v false si wp High stage s)
+    hold-high false LowCsHigh (inside woken fell bs) v stage s =
+        rw (select-open (figureOf part) w s) (on (inside woken fell bs) w v false si wp LowCsHigh stage s)
 
     any-pin : (code : ℕ) → leb 12 code ≡ false → After code
     unfolding afterOne refusal put act placeAfter base step live written
@@ -196,12 +208,12 @@ module _ (part : ℕ) (fair : Fair (figureOf part)) where
   -- with power off only event 11 has an effect
   darkness :
       (kept : ℕ) (array : List ℕ) (code : ℕ) → leb 12 code ≡ false
-      → Follows (rest false) outside (asleep kept array) (offChip part kept array) code
+      → Follows (rest false) (outside false) (unlatched kept array) (offChip part kept array) code
   unfolding afterOne refusal act placeAfter base step written
   darkness kept array code h = go (eqb code 11) refl
     where
-      go : (t : Bool) → eqb code 11 ≡ t → Follows (rest false) outside (asleep kept array) (offChip part kept array) code
-      go true e = rw (h, e) (on outside (asleep kept array) (asleep kept array) false false true High Closed closed)
+      go : (t : Bool) → eqb code 11 ≡ t → Follows (rest false) (outside false) (unlatched kept array) (offChip part kept array) code
+      go true e = rw (h, e) (on (outside false) (unlatched kept array) (unlatched kept array) false false true High Closed (closed false))
       go false e = rw (h, e) (off kept array)
 
   pub follows :
@@ -233,10 +245,10 @@ module _ (part : ℕ) where
   rise-alike si wp sck High s = refl
   rise-alike si wp true LowCsLow s = refl
   rise-alike si wp true LowCsHigh s = refl
-  rise-alike {p = outside} {w = w} si wp false LowCsLow s = rw (select-open (figureOf part) w s)
-  rise-alike {p = outside} {w = w} si wp false LowCsHigh s = rw (select-open (figureOf part) w s)
-  rise-alike {p = inside bs} {w = w} si wp false LowCsLow s = rw (select-open (figureOf part) w s)
-  rise-alike {p = inside bs} {w = w} si wp false LowCsHigh s = rw (select-open (figureOf part) w s)
+  rise-alike {p = outside asleep} {w = w} si wp false LowCsLow s = rw (select-open (figureOf part) w s)
+  rise-alike {p = outside asleep} {w = w} si wp false LowCsHigh s = rw (select-open (figureOf part) w s)
+  rise-alike {p = inside woken fell bs} {w = w} si wp false LowCsLow s = rw (select-open (figureOf part) w s)
+  rise-alike {p = inside woken fell bs} {w = w} si wp false LowCsHigh s = rw (select-open (figureOf part) w s)
 
   pub refuses : {l : Wire} {p : Place} {w : World} {c : Chip} (code : ℕ) → leb 12 code ≡ false → Agrees part l p w c → Refuses l c code
   unfolding refusal step live

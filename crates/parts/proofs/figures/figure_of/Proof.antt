@@ -5,13 +5,14 @@ use Rattle.parts.specs.Figures.{none, figureOf}
 use Rattle.parts.proofs.figures.figure_of.Statement.{statement}
 use Rattle.parts.proofs.figures.figure_of.Tie as tie
 
-no-part : (part : ℕ) → (part ≡ 1 → ⊥) → (part ≡ 2 → ⊥) → (part ≡ 3 → ⊥) → none ≡ figureOf part
+no-part : (part : ℕ) → (part ≡ 1 → ⊥) → (part ≡ 2 → ⊥) → (part ≡ 3 → ⊥) → (part ≡ 4 → ⊥) → none ≡ figureOf part
 unfolding figureOf
-no-part zero a b d = refl
-no-part (suc zero) a b d = absurd (a refl)
-no-part (suc (suc zero)) a b d = absurd (b refl)
-no-part (suc (suc (suc zero))) a b d = absurd (d refl)
-no-part (suc (suc (suc (suc k)))) a b d = refl
+no-part zero a b d e = refl
+no-part (suc zero) a b d e = absurd (a refl)
+no-part (suc (suc zero)) a b d e = absurd (b refl)
+no-part (suc (suc (suc zero))) a b d e = absurd (d refl)
+no-part (suc (suc (suc (suc zero)))) a b d e = absurd (e refl)
+no-part (suc (suc (suc (suc (suc k))))) a b d e = refl
 
 returns : tie.Need-returns
 unfolding figureOf
@@ -26,7 +27,13 @@ unfolding figureOf
 returns-3 c = rw (c .match .keys3)
 
 returns-4 : tie.Need-returns-4
-returns-4 c = no-part (c .before .args .part) (c .match .rest .0 .0 .1) (c .match .rest .0 .1) (c .match .rest .1)
+unfolding figureOf
+returns-4 c = rw (c .match .keys4)
+
+returns-5 : tie.Need-returns-5
+returns-5 c =
+    let rest = c .match .rest in
+    no-part (c .before .args .part) (rest .0 .0 .0 .1) (rest .0 .0 .1) (rest .0 .1) (rest .1)
 
 pub figure-of-spec : {M : Type 1} → statement M
-figure-of-spec = tie.close (tie.spec returns returns-2 returns-3 returns-4)
+figure-of-spec = tie.close (tie.spec returns returns-2 returns-3 returns-4 returns-5)

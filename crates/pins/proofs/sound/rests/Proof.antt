@@ -7,4 +7,6 @@ use Rattle.pins.proofs.sound.rests.Tie as tie
 pub rests-spec : {M : Type 1} → statement M
 unfolding rests
 rests-spec =
-    tie.close (tie.spec (λ c κs. search needs) (λ c κs. search needs) (λ c. simp (c .is-closed .ensures, c .before .hold-high .ensures)))
+    tie.close (tie.spec
+    (λ c κs. search needs) (λ c κs. search needs) (λ c κs. search needs)
+    (λ c. simp (c .is-asleep .ensures, c .before .is-closed .ensures, c .before .before .hold-high .ensures)))

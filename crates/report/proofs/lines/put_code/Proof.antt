@@ -1,5 +1,4 @@
--- Two signs, by the number of clocks.
-use borrow.Author.Tests.{le-ltb, lt-ltb}
+-- Two signs, by whether the select is ignored and the number of clocks.
 use Rattle.report.specs.Lines.{codeText}
 use borrow.Author.Needs.{needs}
 use Rattle.report.proofs.lines.put_code.Statement.{statement}
@@ -10,8 +9,6 @@ unfolding codeText
 put-code-spec =
     tie.close
     (tie.spec
-    (λ c. search needs)
-    (λ c κs. search needs)
-    (λ c. (c .put .ensures .ends, rw (lt-ltb _ _ (c .before .before .before .if1 .taken)) (c .put .ensures)))
-    (λ c κs. search needs)
-    (λ c. (c .put-hex .ensures .0, rw (le-ltb _ _ (c .before .before .if1 .left)) (c .put-hex .ensures .1))))
+    (λ c. search needs) (λ c κs. search needs)
+    (λ c. (c .put .ensures .ends, rw (c .before .before .before .if1 .taken) (c .put .ensures))) (λ c κs. search needs)
+    (λ c. (c .put-hex .ensures .0, rw (c .before .before .if1 .left) (c .put-hex .ensures .1))))

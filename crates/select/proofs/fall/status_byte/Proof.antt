@@ -3,5 +3,8 @@ use borrow.Author.Needs.{needs}
 use Rattle.select.proofs.fall.status_byte.Statement.{statement}
 use Rattle.select.proofs.fall.status_byte.Tie as tie
 
+returns : tie.Need-returns
+returns c = simp (c .before .if1 .taken)
+
 pub status-byte-spec : {M : Type 1} → statement M
-status-byte-spec = tie.close (tie.spec (λ c. simp (c .before .if1 .taken)) (λ c. search needs))
+status-byte-spec = tie.close (tie.spec returns (λ c. search needs))

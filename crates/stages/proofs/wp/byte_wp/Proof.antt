@@ -4,11 +4,21 @@ use Rattle.stages.specs.Wp.{byteWp}
 use Rattle.stages.proofs.wp.byte_wp.Statement.{statement}
 use Rattle.stages.proofs.wp.byte_wp.Tie as tie
 
-pub byte-wp-spec : {M : Type 1} → statement M
+returns : tie.Need-returns
 unfolding byteWp
-byte-wp-spec =
-    tie.close
-    (tie.spec
-    (λ c. simp (c .if2 .taken, c .before .if1 .taken))
-    (λ c. simp (c .if2 .left, c .before .if1 .taken))
-    (λ c. simp (ne-eqb _ _ (c .if1 .left))))
+returns c = simp (c .if1 .taken)
+
+returns-2 : tie.Need-returns-2
+unfolding byteWp
+returns-2 c = simp (c .if3 .taken, c .before .if2 .taken, c .before .before .if1 .left)
+
+returns-3 : tie.Need-returns-3
+unfolding byteWp
+returns-3 c = simp (c .if3 .left, c .before .if2 .taken, c .before .before .if1 .left)
+
+returns-4 : tie.Need-returns-4
+unfolding byteWp
+returns-4 c = simp (ne-eqb _ _ (c .if2 .left), c .before .if1 .left)
+
+pub byte-wp-spec : {M : Type 1} → statement M
+byte-wp-spec = tie.close (tie.spec returns returns-2 returns-3 returns-4)

@@ -7,8 +7,16 @@ use Rattle.bench.proofs.stand.Stand.after.Tie as tie
 returns : tie.Need-returns
 unfolding after
 returns c =
-    let test = c .before .before in (
-      simp (c .new .ensures, c .before .count .ensures, ← test .before .is-open2 .ensures, ← test .before .before .is-open .ensures, test .if1 .taken),
+    let asked = c .before .before in
+    let test = asked .before in (
+      simp (
+        c .new .ensures,
+        c .before .count .ensures,
+        asked .is-asleep .ensures,
+        ← test .before .is-open2 .ensures,
+        ← test .before .before .is-open .ensures,
+        test .if1 .taken,
+      ),
       search needs,
     )
 
@@ -25,4 +33,4 @@ after-spec =
     tie.close
     (tie.spec
     (λ c κs. search needs) (λ c κs. search needs) (λ c κs. search needs) (λ c κs. search needs) (λ c κs. search needs)
-    (λ c κs. search needs) returns returns-2)
+    (λ c κs. search needs) (λ c κs. search needs) returns returns-2)

@@ -1,0 +1,17 @@
+-- By what is shown.
+use borrow.Author.Needs.{needs}
+use Rattle.stages.proofs.sound.shown_length.Statement.{statement}
+use Rattle.stages.proofs.sound.shown_length.Tie as tie
+
+returns : tie.Need-returns
+returns c = simp (c .enum-told .given .1)
+
+returns-2 : tie.Need-returns-2
+returns-2 c = simp (c .enum-told2 .given .1)
+
+returns-3 : tie.Need-returns-3
+returns-3 c = simp (c .enum-told3 .given .1)
+
+pub shown-length-spec : {M : Type 1} → statement M
+shown-length-spec =
+    tie.close (tie.spec (λ c. search needs) (λ c. search needs) (λ c. search needs) returns returns-2 returns-3)
