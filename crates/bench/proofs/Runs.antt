@@ -19,7 +19,7 @@ use Rattle.parts.specs.FigureLaws.{most, largest}
 use Rattle.parts.specs.declared.figures.Figure.{Figure}
 use Rattle.pins.specs.Levels.{atRest}
 use Rattle.pins.specs.declared.state.State.{State}
-use Rattle.chip.specs.Power.{powerUp, filled}
+use Rattle.chip.specs.Power.{powerUp, fresh, filled}
 use Rattle.chip.specs.declared.power.Powered.{Powered}
 use Rattle.trace.specs.Items.{itemEvents}
 use Rattle.report.specs.Lines.{partLine}
@@ -101,10 +101,10 @@ replayed-led s os lead f p d led none row e =
 
 -- the start, by what fill, power-up and the printing of line 1 leave
 module _ (lead : Head) (xs os out : List ℕ) (p : Powered) (ys : List ℕ) (s : Stand)
-    (fresh : ys ≡ filled (lead .part) xs) (power : p ≡ powerUp (lead .part) (lead .kept) ys) (first-of : s ≡ noEvent (p .state)) where
+    (all-fresh : ys ≡ filled (lead .part) fresh xs) (power : p ≡ powerUp (lead .part) (lead .kept) ys) (first-of : s ≡ noEvent (p .state)) where
   begins : powered lead p ys os ≡ started lead xs os
   unfolding started
-  begins = rw (power, fresh)
+  begins = rw (power, all-fresh)
 
   pub start-refused : (p .refusal ≡ 0 → ⊥)
       → deskOf (record { refusal = p .refusal; stand = s; at = 0 }) ys os out ≡ onPage (pageOf out 0) (started lead xs os)

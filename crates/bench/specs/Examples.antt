@@ -7,13 +7,13 @@ use lib.Dec.{T}
 use Rattle.trace.specs.Number.{reading}
 use Rattle.parts.specs.Figures.{figureOf}
 use Rattle.parts.specs.Commands.{command}
-use Rattle.stages.specs.Address.{afterCode}
+use Rattle.stages.specs.Address.{afterCode, afterAddress, nextAddress}
 use Rattle.stages.specs.Bits.{takeBit, bitOf}
 use Rattle.stages.specs.Wp.{fallWp, byteWp, byteCame}
 use Rattle.stages.specs.Close.{afterFall}
 use Rattle.stages.specs.Sound.{soundStage}
 use Rattle.select.specs.Fall.{showArray, showStatus, fall}
-use Rattle.select.specs.Rise.{opened, codeRise, rise}
+use Rattle.select.specs.Rise.{opened, codeRise, lowerRise, rise}
 use Rattle.pins.specs.Edges.{csFall, csRise, sckRise, sckFall}
 use Rattle.pins.specs.Sound.{rests, sound}
 use Rattle.pins.specs.Watch.{isOpen, seesRise}
@@ -75,6 +75,14 @@ traces =
           ++ ascii "sel 2 so - op 05 clocks 9 stored 0\n"
           ++ ascii "end kept 00 latch 0 refused 0\n";
     }
+    -- "A fresh array holds FF." (document 02, Wish 6): READ of 1FFh, the last byte, and of 000h, the first
+    ∷ record {
+      trace = 0x01 ∷ 0x00 ∷ 0x00 ∷ 0x17 ∷ 0x8B ∷ 0x02 ∷ 0x0C ∷ 0x0C ∷ 0x01 ∷ [];
+      prints =
+          ascii "part 1 bytes 512 kept 00\n"
+          ++ ascii "sel 1 so FFFF op 0B clocks 32 stored 0\n"
+          ++ ascii "end kept 00 latch 0 refused 0\n";
+    }
     -- WREN and a number that is cut off: 8, and the latch is set
     ∷ record {
       trace = 0x01 ∷ 0x00 ∷ 0x00 ∷ 0x12 ∷ 0x01 ∷ 0x80 ∷ [];
@@ -92,5 +100,5 @@ traces =
     ∷ []
 
 examples : T (all traces)
-unfolding all traces figureOf command afterCode takeBit fallWp byteWp byteCame afterFall bitOf showArray showStatus fall opened codeRise rise soundStage csFall csRise sckRise sckFall live step checks event written rests sound isOpen seesRise reading fillRefusal filled powerRefusal powerUp clocked itemEvents counted codeAfter sampled risen shownAfter noted leading headOf afterEvent afterItem itemsFrom ranFrom started ran replayed closes clockedBy shownBy after codeText shownText partLine countsText selectLine endLine capitals hex decimal report
+unfolding all traces figureOf command afterCode afterAddress nextAddress takeBit fallWp byteWp byteCame afterFall bitOf showArray showStatus fall opened codeRise lowerRise rise soundStage csFall csRise sckRise sckFall live step checks event written rests sound isOpen seesRise reading fillRefusal filled powerRefusal powerUp clocked itemEvents counted codeAfter sampled risen shownAfter noted leading headOf afterEvent afterItem itemsFrom ranFrom started ran replayed closes clockedBy shownBy after codeText shownText partLine countsText selectLine endLine capitals hex decimal report
 examples = tt

@@ -9,7 +9,7 @@ use Rattle.trace.specs.Answers.{Told, Value, num, end}
 use Rattle.trace.specs.Number.{reading}
 use Rattle.parts.specs.Figures.{figureOf}
 use Rattle.pins.specs.Levels.{atRest}
-use Rattle.chip.specs.Power.{powerUp, filled}
+use Rattle.chip.specs.Power.{powerUp, fresh, filled}
 use Rattle.chip.specs.declared.power.Powered.{Powered}
 use Rattle.trace.specs.Items.{itemEvents}
 use Rattle.report.specs.Lines.{partLine}
@@ -80,10 +80,11 @@ powered lead p array shown =
       text = firstText lead p;
     }
 
--- "It starts from a fresh array": power-up is on the filled one
+-- "It starts from a fresh array", which "is now FF, in replay .. too" (document 02, Wish 6): power-up is on the filled one
 unfoldable pub started : Head → List ℕ → List ℕ → Bench
 started lead array shown =
-    powered lead (powerUp (lead .part) (lead .kept) (filled (lead .part) array)) (filled (lead .part) array) shown
+    let xs = filled (lead .part) fresh array in
+    powered lead (powerUp (lead .part) (lead .kept) xs) xs shown
 
 -- from the start on; a refused power-up stops it
 unfoldable pub ran : List ℕ → Head → List ℕ → List ℕ → Bench

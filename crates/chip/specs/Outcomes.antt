@@ -48,11 +48,11 @@ module _ (part kept : ℕ) (xs : List ℕ) where
   pub power-up-sole : (a b : Powered) → a ≡ powerUp part kept xs → b ≡ powerUp part kept xs → a ≡ b
   power-up-sole a b = sole
 
-  pub fill-sole : (a b : ℕ) (ys zs : List ℕ)
-      → FillPromise part xs a ys
-      → FillPromise part xs b zs
+  pub fill-sole : (byte a b : ℕ) (ys zs : List ℕ)
+      → FillPromise part byte xs a ys
+      → FillPromise part byte xs b zs
       → (a ≡ b) × (ys ≡ zs)
-  fill-sole a b ys zs p q = (sole (p .0) (q .0), sole (p .1) (q .1))
+  fill-sole byte a b ys zs p q = (sole (p .0) (q .0), sole (p .1) (q .1))
 
 pub sound-sole : (s : State) (a b : Bool) → a ≡ sound s → b ≡ sound s → a ≡ b
 sound-sole s a b = sole

@@ -8,13 +8,17 @@ use Rattle.parts.specs.Figures.{isPart, inMask, fitsPart}
 use Rattle.pins.specs.Levels.{atRest}
 use Rattle.chip.specs.declared.power.Powered.{Powered}
 
--- "Filling a fresh array with 00 checks 1, 2."
+-- "Filling a fresh array .. checks 1, 2."
 unfoldable pub fillRefusal : ℕ → ℕ → ℕ
 fillRefusal part len = cond (not (isPart part)) 1 (cond (not (fitsPart part len)) 2 0)
 
--- "Lent memory stays at every refusal."
-unfoldable pub filled : ℕ → List ℕ → List ℕ
-filled part xs = cond (eqb (fillRefusal part (length xs)) 0) (replicate (length xs) 0) xs
+-- "A fresh array holds FF." (document 02, Wish 6), in place of document 01's 00
+abbrev pub fresh : ℕ
+fresh = 0xFF
+
+-- "A caller that wants 00 says so with a fill byte": every byte is that one. "Lent memory stays at every refusal."
+unfoldable pub filled : ℕ → ℕ → List ℕ → List ℕ
+filled part byte xs = cond (eqb (fillRefusal part (length xs)) 0) (replicate (length xs) byte) xs
 
 -- "Power-up checks 1, 2, 3.": those two, then the mask
 unfoldable pub powerRefusal : ℕ → ℕ → ℕ → ℕ

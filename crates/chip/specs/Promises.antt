@@ -24,6 +24,6 @@ ListPromise xs s codes os a ys ls =
     × (ys ≡ listed xs s codes os .array)
     × (ls ≡ listed xs s codes os .levels)
 
--- a fresh array: the refusal a, or 0, and the array ys
-abbrev pub FillPromise : ℕ → List ℕ → ℕ → List ℕ → Type 0
-FillPromise part xs a ys = (a ≡ fillRefusal part (length xs)) × (ys ≡ filled part xs)
+-- the array xs filled with one byte: the refusal a, or 0, and the array ys
+abbrev pub FillPromise : ℕ → ℕ → List ℕ → ℕ → List ℕ → Type 0
+FillPromise part byte xs a ys = (a ≡ fillRefusal part (length xs)) × (ys ≡ filled part byte xs)

@@ -1,12 +1,15 @@
 // Power-up, and a fresh array.
 ghost use mathlib.Core.Path.{_≡_};
 ghost use lib.ListN.{length, replicate};
-ghost use Rattle.chip.specs.Power.{powerRefusal, powerUp, fillRefusal};
+ghost use Rattle.chip.specs.Power.{powerRefusal, powerUp, fillRefusal, fresh};
 ghost use Rattle.chip.specs.Promises.{FillPromise};
 use parts::figures::figure_of;
 use parts::figures::fits_part;
 use parts::figures::is_part;
 use pins::state::State;
+
+// Document 02, Wish 6: "A fresh array holds FF."
+const FRESH: u8 = 0xFF;
 
 pub struct Powered {
     pub refusal: u8,
@@ -53,7 +56,7 @@ pub fn power_up(part: u64, kept: u64, array: &[u8]) -> Powered
 }
 
 // Every byte of the array set to one value.
-fn fill_with(array: &mut [u8], byte: u8)
+fn set_all(array: &mut [u8], byte: u8)
     ensures { λ _. ⌜ now (array .exit) ≡ replicate (length (now (array .entry))) byte ⌝ }
 {
     let mut i = 0;
@@ -63,13 +66,20 @@ fn fill_with(array: &mut [u8], byte: u8)
     }
 }
 
-// A fresh array. It answers the refusal, or 0.
-pub fn fill(part: u64, array: &mut [u8]) -> u8
-    ensures { λ r. ⌜ FillPromise part (now (array .entry)) r (now (array .exit)) ⌝ }
+// A fresh array for a caller who "says so with a fill byte". It answers the refusal, or 0.
+pub fn fill_with(part: u64, array: &mut [u8], byte: u8) -> u8
+    ensures { λ r. ⌜ FillPromise part byte (now (array .entry)) r (now (array .exit)) ⌝ }
 {
     let refusal = fill_refusal(part, array.len());
     if refusal == 0 {
-        fill_with(array, 0);
+        set_all(array, byte);
     }
     refusal
+}
+
+// "the old call means FF"
+pub fn fill(part: u64, array: &mut [u8]) -> u8
+    ensures { λ r. ⌜ FillPromise part fresh (now (array .entry)) r (now (array .exit)) ⌝ }
+{
+    fill_with(part, array, FRESH)
 }

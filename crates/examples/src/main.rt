@@ -4,13 +4,14 @@
 //
 // A line of the input is a comment, `# ..`; a title, `== ..`, which is printed; or a letter and hex numbers, for each of
 // which the letter is done in turn:
-//   k, l      the kept bits of a power-up, the length of the array that is lent, from here on
-//   u, f      power-up of this part; the fill of the array for this part
+//   k, l, b   the kept bits of a power-up, the length of the array that is lent, the fill byte, from here on
+//   u, f, F   power-up of this part; the fill of the array for this part, with no fill byte and with one
 //   v, e      this event, with nothing printed; this event
 //   w, r      the lender writes this byte at address 0; the byte at this address
 //   S         the state in an op-code of which these bits came, with the 1 before them
 use chip::event::event;
 use chip::power::fill;
+use chip::power::fill_with;
 use chip::power::power_up;
 use libc::STDIN_FILENO;
 use libc::STDOUT_FILENO;
@@ -27,6 +28,7 @@ struct Desk {
     number: u64,
     kept: u64,
     len: usize,
+    byte: u8,
     chip: State,
 }
 
@@ -44,6 +46,7 @@ fn calls(text: &[u8], array: &mut [u8]) {
         number: 0,
         kept: 0,
         len: 512,
+        byte: 0,
         chip: State::at_rest(1, 0, false),
     };
     let mut i = 0;
@@ -112,6 +115,10 @@ fn call(desk: Desk, array: &mut [u8], n: u64) -> Desk {
             len: n as usize,
             ..desk
         },
+        b'b' => Desk {
+            byte: (n % 256) as u8,
+            ..desk
+        },
         b'w' => {
             if 0 < array.len() {
                 array[0] = (n % 256) as u8;
@@ -123,9 +130,11 @@ fn call(desk: Desk, array: &mut [u8], n: u64) -> Desk {
             desk
         }
         b'f' => {
-            let refusal = fill(n, array);
-            say_number(b"fill: refused ", refusal as u64);
-            say(b"\n");
+            tell_fill(fill(n, array));
+            desk
+        }
+        b'F' => {
+            tell_fill(fill_with(n, array, desk.byte));
             desk
         }
         _ => Desk {
@@ -201,6 +210,11 @@ fn tell_event(chip: State, array: &mut [u8], code: u64) -> State {
     say_note(note);
     say(b"\n");
     answer.state
+}
+
+fn tell_fill(refusal: u8) {
+    say_number(b"fill: refused ", refusal as u64);
+    say(b"\n");
 }
 
 // A line for a power-up, and the state after it.

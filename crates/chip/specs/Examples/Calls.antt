@@ -19,7 +19,7 @@ use Rattle.pins.specs.declared.state.State.{State}
 use Rattle.select.specs.Notes.{levelNumber, noteNumbers}
 use Rattle.chip.specs.Event.{event}
 use Rattle.chip.specs.Examples.Run.{same, stateNumbers}
-use Rattle.chip.specs.Power.{fillRefusal, filled, powerUp}
+use Rattle.chip.specs.Power.{fillRefusal, fresh, filled, powerUp}
 use Rattle.chip.specs.declared.event.Answer.{Answer}
 use Rattle.chip.specs.declared.power.Powered.{Powered}
 
@@ -117,26 +117,34 @@ powerings =
     ∷ starts 1 0x0C 512 ∷ starts 2 0x08 512 ∷ starts 3 0x8C 2048
     ∷ []
 
--- a fill of an array of EE
+-- an array of EE filled with this byte: the refusal, or 0, and what every byte of it is then
 pub record Filling : Type 0 where
   pub part : ℕ
   pub len : ℕ
-  pub number : ℕ
   pub byte : ℕ
+  pub number : ℕ
+  pub left : ℕ
+
+abbrev keepsAll : ℕ → ℕ → ℕ → ℕ → Filling
+keepsAll part len byte number = record { part = part; len = len; byte = byte; number = number; left = 0xEE }
 
 abbrev fills : ℕ → ℕ → ℕ → ℕ → Filling
-fills part len number byte = record { part = part; len = len; number = number; byte = byte }
+fills part len byte left = record { part = part; len = len; byte = byte; number = 0; left = left }
 
 abbrev pub allFilled : List Filling → Bool
 allFilled [] = true
 allFilled (c ∷ cs) =
     eqb (fillRefusal (c .part) (c .len)) (c .number)
-    && same (filled (c .part) (replicate (c .len) 0xEE)) (replicate (c .len) (c .byte))
+    && same (filled (c .part) (c .byte) (replicate (c .len) 0xEE)) (replicate (c .len) (c .left))
     && allFilled cs
 
--- "Filling a fresh array with 00 checks 1, 2." "Lent memory stays at every refusal."
+-- "Filling a fresh array .. checks 1, 2." "Lent memory stays at every refusal."
 unfoldable pub fillings : List Filling
 fillings =
-    fills 0 0 1 0xEE ∷ fills 5 511 1 0xEE ∷ fills 1 511 2 0xEE ∷ fills 2 513 2 0xEE ∷ fills 3 512 2 0xEE
-    ∷ fills 1 512 0 0x00 ∷ fills 2 512 0 0x00 ∷ fills 3 2048 0 0x00
+    keepsAll 0 0 fresh 1 ∷ keepsAll 5 511 fresh 1 ∷ keepsAll 1 511 fresh 2 ∷ keepsAll 2 513 fresh 2 ∷ keepsAll 3 512 fresh 2
+    ∷ keepsAll 5 512 0x00 1 ∷ keepsAll 1 513 0x00 2
+    -- "the old call means FF"
+    ∷ fills 1 512 fresh 0xFF ∷ fills 2 512 fresh 0xFF ∷ fills 3 2048 fresh 0xFF ∷ fills 4 16384 fresh 0xFF
+    -- "A caller that wants 00 says so with a fill byte"; any other byte too
+    ∷ fills 1 512 0x00 0x00 ∷ fills 3 2048 0x00 0x00 ∷ fills 2 512 0x5A 0x5A
     ∷ []

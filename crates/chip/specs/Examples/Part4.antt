@@ -1,12 +1,12 @@
 -- Part 4, the FM25V01 (document 02, Wish 3; source document 004): what it has and the others have not, told from the ways in
--- which it could be misread. Worked out from the documents by hand. Assumes nothing.
+-- which it could be misread. Worked out from the documents by hand, over an array of FF. Assumes nothing.
 use Prim.Native.Nat.{ℕ}
 use mathlib.Core.Bool.{true, false}
 use mathlib.Core.List.{List, [], _∷_, _++_}
 use Rattle.trace.specs.Items.{clocked}
 use Rattle.parts.specs.declared.guards.Reason.the-variants.{Protect, Block}
 use Rattle.stages.specs.declared.stage.End.the-variants.{Quiet, Sleeps}
-use Rattle.stages.specs.declared.stage.Line.the-variants.{Down}
+use Rattle.stages.specs.declared.stage.Line.the-variants.{Down, Up}
 use Rattle.stages.specs.declared.stage.Stage.{Stage}
 use Rattle.stages.specs.declared.stage.Stage.the-variants.{ArrayOut, IdentOut, Over, Asleep}
 use Rattle.select.specs.declared.notes.Note.{Note}
@@ -50,10 +50,10 @@ ofFast =
     -- from 3FFFh to 0000h, as READ does
     ∷ rolls 4 (0x02 ∷ 0xFF ∷ 0xFF ∷ []) (0x0B ∷ 0x7F ∷ 0xFF ∷ 0xA5 ∷ []) 0x3FFF
     ∷ rolls 4 (0x02 ∷ 0x3F ∷ 0xFF ∷ []) (0x03 ∷ 0xBF ∷ 0xFF ∷ []) 0x3FFF
-    -- SO is released through the dummy byte, and driven at its last fall
-    ∷ drives 0 (accepts 4 0 (begins (0x0B ∷ 0 ∷ 0 ∷ 0 ∷ [])) [] [] (opened (ArrayOut Down 7 0)))
-    -- one op-code, three meanings: READ from 100h, nothing, FSTRD from 0000h
-    ∷ eleven 1 (0x0A ∷ 0x00 ∷ []) 0x100 (0x54 ∷ 0 ∷ 0 ∷ [])
+    -- SO is released through the dummy byte, and driven at its last fall: bit 7 of FF
+    ∷ drives 1 (accepts 4 0 (begins (0x0B ∷ 0 ∷ 0 ∷ 0 ∷ [])) [] [] (opened (ArrayOut Up 7 0)))
+    -- one op-code, three meanings: READ from 100h on, with fresh memory from 101h on; nothing; FSTRD from 0000h
+    ∷ eleven 1 (0x0A ∷ 0x00 ∷ []) 0x100 (0x54 ∷ 0xFF ∷ 0xFF ∷ [])
     ∷ eleven 3 (0x02 ∷ 0x00 ∷ 0x00 ∷ []) 0x000 []
     ∷ eleven 4 (0x02 ∷ 0x00 ∷ 0x00 ∷ []) 0x0000 (0x54 ∷ [])
     -- "C3h does nothing here", nor does 0Ah

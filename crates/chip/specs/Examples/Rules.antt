@@ -1,5 +1,5 @@
 -- Each rule of document 01 told from the ways in which it could be misread: worked out from the document by hand, in its
--- order. Part 1 over an array of 00 unless said. Assumes nothing.
+-- order. Part 1 over an array of FF unless said. Assumes nothing.
 use Prim.Native.Nat.{ℕ}
 use mathlib.Core.Bool.{true, false}
 use mathlib.Core.List.{List, [], _∷_, _++_}
@@ -93,11 +93,11 @@ ofCodes =
     ∷ writes 1 0 (transfer (0x04 ∷ []) ++ wren ++ wren ++ transfer (0x04 ∷ [])) (Latch false ∷ Latch true ∷ Latch true ∷ Latch false ∷ []) (idle 1 0 false false)
     -- "one op-code per select"
     ∷ writes 1 0 (transfer (0x06 ∷ 0x04 ∷ [])) (Latch true ∷ []) (idle 1 0 true false)
-    -- a select closed in its header is over, and READ and RDSR leave the latch
+    -- a select closed in its header is over, and READ (of fresh memory, FF) and RDSR leave the latch
     ∷ accepts 1 0
     (wren ++ begins (0x02 ∷ []) ++ clocks 4 0x00 ++ 1 ∷ transfer (0x03 ∷ 0x00 ∷ 0x00 ∷ []) ++ rdsr)
     (Latch true ∷ [])
-    (0x00 ∷ 0x02 ∷ [])
+    (0xFF ∷ 0x02 ∷ [])
     (idle 1 0 true false)
     -- bit 3 on the other op-codes, on each part: 0Eh is no WREN, 0Ch no WRDI, 0Dh no RDSR, 09h no WRSR
     ∷ others 1 ∷ others 2 ∷ others 3
@@ -159,7 +159,7 @@ ofOutput =
     ∷ accepts 1 0
     (wren ++ transfer (0x0A ∷ 0x10 ∷ 0x54 ∷ []) ++ transfer (0x03 ∷ 0x10 ∷ 0x00 ∷ []) ++ transfer (0x0B ∷ 0x10 ∷ 0x00 ∷ []))
     (Latch true ∷ Stored 0x110 0x54 ∷ Latch false ∷ [])
-    (0x00 ∷ 0x54 ∷ [])
+    (0xFF ∷ 0x54 ∷ [])
     (idle 1 0 false false)
     ∷ []
 

@@ -29,7 +29,7 @@ use Rattle.pins.specs.declared.hold.Hold.{Hold}
 use Rattle.pins.specs.declared.hold.Hold.the-variants.{High, LowCsLow, LowCsHigh}
 use Rattle.pins.specs.declared.state.State.{State}
 use Rattle.chip.specs.Event.{event}
-use Rattle.chip.specs.Power.{fillRefusal, filled, powerUp}
+use Rattle.chip.specs.Power.{fillRefusal, fresh, filled, powerUp}
 use Rattle.chip.specs.declared.event.Answer.{Answer}
 use Rattle.chip.specs.Run.{Chip, answered, fromPowerUp}
 
@@ -187,9 +187,9 @@ stateNumbers s =
     s .part ∷ s .kept ∷ lowBit (s .power) ∷ lowBit (s .sck) ∷ lowBit (s .si) ∷ lowBit (s .wp) ∷ lowBit (s .latch)
     ∷ holdNumber (s .hold) ∷ stageNumbers (s .stage)
 
--- "Array 00"
+-- "the fresh array is now FF, in .. document 01's examples too" (document 02, Wish 6)
 abbrev pub blank : ℕ → List ℕ
-blank part = replicate (figureOf part .size) 0
+blank part = replicate (figureOf part .size) 0xFF
 
 -- an array in which the bytes of the stored notes stand
 abbrev pub withStored : List ℕ → List Note → List ℕ
@@ -211,10 +211,10 @@ ends e r =
 abbrev pub lent : ℕ → List ℕ
 lent part = replicate (figureOf part .size) 0xEE
 
--- the fill and the power-up are accepted, and the example ends as it should
+-- the old call's fill and the power-up are accepted, and the example ends as it should
 abbrev pub holds : Example → Bool
 holds e =
-    let xs = filled (e .part) (lent (e .part)) in
+    let xs = filled (e .part) fresh (lent (e .part)) in
     eqb (fillRefusal (e .part) (figureOf (e .part) .size)) 0
     && eqb (powerUp (e .part) (e .kept) xs .refusal) 0
     && ends e (toldOf (fromPowerUp (e .part) (e .kept) xs) 2 (e .events))

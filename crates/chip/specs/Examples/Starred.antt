@@ -1,4 +1,4 @@
--- Document 01's starred examples. Assumes nothing.
+-- Document 01's starred examples, over the fresh array of document 02's Wish 6. Assumes nothing.
 use mathlib.Core.Bool.{true, false}
 use mathlib.Core.List.{List, [], _∷_, _++_}
 use Rattle.parts.specs.declared.guards.Reason.the-variants.{LatchOff, Protect, Block}
@@ -6,7 +6,8 @@ use Rattle.select.specs.declared.notes.Note.the-variants.{Latch, Stored, HeldBa
 use Rattle.pins.specs.Levels.{atRest}
 use Rattle.chip.specs.Examples.Run.{Example, accepts, writes, idle, wpLow, begins, transfer, clocks, wren}
 
--- "Array 00 and part 1 unless said; each transfer is one select."
+-- "Array 00 and part 1 unless said; each transfer is one select.", but for the 00: "the fresh array is now FF, in replay and
+-- document 01's examples too" (document 02, Wish 6)
 unfoldable pub starred : List Example
 starred =
     -- 1. "Kept 0Ch, RDSR: 0C."
@@ -20,7 +21,7 @@ starred =
     (wren ++ transfer (0x0A ∷ 0xFF ∷ 0x11 ∷ 0x22 ∷ []))
     (Latch true ∷ Stored 0x1FF 0x11 ∷ Stored 0x000 0x22 ∷ Latch false ∷ [])
     (idle 1 0 false false)
-    -- 5. "WREN; 02 10 and seven clocks of A5: nothing stored, latch still set after the rise of /CS."
+    -- 5. "WREN; 02 10 and seven clocks of A5: nothing stored, latch still set after the rise of /CS.": 010h is FF still
     ∷ writes 1 0 (wren ++ begins (0x02 ∷ 0x10 ∷ []) ++ clocks 7 0xA5 ++ (1 ∷ [])) (Latch true ∷ []) (idle 1 0 true false)
     -- 6. "WREN; 02 10 A5; 02 11 5A: 010h = A5, 011h held back, reason 1."
     ∷ writes 1 0
@@ -50,7 +51,8 @@ starred =
     -- 11. "WREN; 01 FF: kept 0Ch; on part 3, 8Ch."
     ∷ writes 1 0 (wren ++ transfer (0x01 ∷ 0xFF ∷ [])) (Latch true ∷ KeptSet 0x0C ∷ Latch false ∷ []) (idle 1 0x0C false true)
     ∷ writes 3 0 (wren ++ transfer (0x01 ∷ 0xFF ∷ [])) (Latch true ∷ KeptSet 0x8C ∷ Latch false ∷ []) (idle 3 0x8C false true)
-    -- 12. "WREN; 02 20 11 22 and four clocks of 33, then event 10: 020h = 11, 021h = 22, 022h = 00, latch off after 11."
+    -- 12. "WREN; 02 20 11 22 and four clocks of 33, then event 10: 020h = 11, 021h = 22, 022h = 00, latch off after 11.", but
+    -- "example 12's 022h becomes FF"
     ∷ writes 1 0
     (wren ++ begins (0x02 ∷ 0x20 ∷ 0x11 ∷ 0x22 ∷ []) ++ clocks 4 0x33 ++ (10 ∷ 11 ∷ []))
     (Latch true ∷ Stored 0x020 0x11 ∷ Stored 0x021 0x22 ∷ PowerLost ∷ [])

@@ -1,22 +1,10 @@
--- Refused, the array stays; else it is filled.
-use borrow.Author.Tests.{eq-eqb, ne-eqb}
-use Rattle.chip.specs.Power.{filled}
+-- As the call with a fill byte leaves it.
 use borrow.Author.Needs.{needs}
 use Rattle.chip.proofs.power.fill.Statement.{statement}
 use Rattle.chip.proofs.power.fill.Tie as tie
 
 returns : tie.Need-returns
-unfolding filled
-returns c = (
-  c .before .before .before .before .before .fill-refusal .ensures,
-  simp (c .before .before .fill-with .ensures, ← c .before .before .before .before .before .fill-refusal .ensures, eq-eqb _ _ (c .before .before .before .before .if1 .taken)),
-)
-
-returns-2 : tie.Need-returns-2
-unfolding filled
-returns-2 c =
-    (c .before .fill-refusal .ensures, simp (← c .before .fill-refusal .ensures, ne-eqb _ _ (c .if1 .left)))
+returns c = c .before .before .fill-with .ensures
 
 pub fill-spec : {M : Type 1} → statement M
-fill-spec =
-    tie.close (tie.spec (λ c κs. search needs) (λ c κs. search needs) (λ c. search needs) returns returns-2)
+fill-spec = tie.close (tie.spec (λ c κs. search needs) (λ c. search needs) returns)
