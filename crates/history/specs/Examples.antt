@@ -12,8 +12,8 @@ use Rattle.stages.specs.Bits.{lowBit}
 use Rattle.select.specs.declared.notes.Note.the-variants.{Latch, Stored, KeptSet}
 use Rattle.chip.specs.Examples.Run.{Example, writes, idle, transfer, wren, same, blank, withStored}
 use Rattle.chip.specs.Examples.Starred.{starred}
-use Rattle.chip.specs.Examples.Rules.{ofLines, ofCodes, ofOutput, ofWriting, ofGuards, ofHold, rules}
-use Rattle.chip.specs.Examples.Part4.{ofGuarded, ofSleep}
+use Rattle.worked.specs.Examples.Rules.{ofLines, ofCodes, ofOutput, ofWriting, ofGuards, ofHold, rules}
+use Rattle.worked.specs.Examples.Part4.{ofGuarded, ofSleep}
 use Rattle.history.specs.Wire.{put, refusal, afterOne, act, acts}
 use Rattle.history.specs.Transfers.{transferFrom, spans}
 use Rattle.history.specs.Bytes.{bitsValue, eights, wholeBytes, topBit, number, address, readAs, readTransfer}

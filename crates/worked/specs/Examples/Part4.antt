@@ -15,8 +15,8 @@ use Rattle.pins.specs.Edges.{withSck, withSi, withHold, withStage}
 use Rattle.pins.specs.Levels.{atRest}
 use Rattle.pins.specs.declared.hold.Hold.the-variants.{LowCsLow, LowCsHigh}
 use Rattle.pins.specs.declared.state.State.{State}
 use Rattle.chip.specs.Examples.Run.{Example, accepts, writes, idle, wpLow, begins, transfer, clocks, wren}
-use Rattle.chip.specs.Examples.Rules.{refuses, drives, two, status, low, rdsr, rolls}
+use Rattle.worked.specs.Examples.Rules.{refuses, drives, two, status, low, rdsr, rolls}
 
 -- "Manufacturer ID" and "Product ID", as 004's table of device bytes prints them
 abbrev ident : List ℕ

@@ -6,22 +6,22 @@ use mathlib.Core.List.{List, [], _∷_}
 use lib.Dec.{eqb}
 use lib.ListN.{replicate}
 use Rattle.stages.specs.declared.stage.Stage.{Stage}
-use Rattle.stages.specs.declared.stage.Stage.the-variants.{Code, Upper, Lower, Ready, ArrayOut, StatusOut, Writing, Keeping}
+use Rattle.stages.specs.declared.stage.Stage.the-variants.{Asleep, Code, Upper, Lower, Dummy, Ready, ArrayOut, StatusOut, IdentOut, Writing, Keeping}
 use Rattle.stages.specs.declared.stage.Came.the-variants.{NoByte, NoByteLow, Bytes}
 use Rattle.stages.specs.declared.stage.Line.the-variants.{Down, Up}
 use Rattle.stages.specs.declared.stage.Purpose.the-variants.{ToRead, ToWrite}
-use Rattle.stages.specs.declared.stage.What.the-variants.{Array, Status}
+use Rattle.stages.specs.declared.stage.What.the-variants.{Array, Status, Ident}
 use Rattle.stages.specs.Bits.{noBits}
 use Rattle.pins.specs.Edges.{withSck, withWp, withSi, withHold, withStage}
 use Rattle.pins.specs.Levels.{atRest}
 use Rattle.pins.specs.declared.hold.Hold.the-variants.{LowCsHigh}
 use Rattle.pins.specs.declared.state.State.{State}
 use Rattle.select.specs.Notes.{levelNumber, noteNumbers}
 use Rattle.chip.specs.Event.{event}
 use Rattle.chip.specs.Examples.Run.{same, stateNumbers}
 use Rattle.chip.specs.Power.{fillRefusal, fresh, filled, powerUp}
 use Rattle.chip.specs.declared.event.Answer.{Answer}
 use Rattle.chip.specs.declared.power.Powered.{Powered}
 
 -- "Any other refusal returns its number with the state given; SO reads released, the note is nothing."
 abbrev pub stays : State → ℕ → Answer → Bool
@@ -43,12 +43,15 @@ abbrev pub allRefused : List Refused → Bool
 allRefused [] = true
 allRefused (c ∷ cs) = stays (c .state) (c .number) (event (replicate (c .len) 0) (c .state) (c .code)) && allRefused cs
 
--- part 1 or 3 with no kept bits, in a select's stage
+-- part 1, 3 or 4 with no kept bits, in a select's stage
 abbrev in1 : Stage → State
 in1 stage = withStage (atRest 1 0 true) false stage
 
 abbrev in3 : Stage → State
 in3 stage = withStage (atRest 3 0 true) false stage
+
+abbrev in4 : Stage → State
+in4 stage = withStage (atRest 4 0 true) false stage
 
 -- "An event checks 4, 2, 5, 6, 7."
 unfoldable pub refusedEvents : List Refused
@@ -84,6 +87,13 @@ refusedEvents =
     ∷ refuses (in1 (Keeping Up 0)) 512 11 4 ∷ refuses (in1 (Keeping Up 256)) 512 11 4 ∷ refuses (in1 (Writing NoByte 256 0)) 512 11 4
     ∷ refuses (in1 (Lower ToRead 256 0)) 512 11 4 ∷ refuses (in3 (Upper ToRead 256)) 2048 11 4 ∷ refuses (in3 (Upper ToRead 255)) 2048 11 0
     ∷ refuses (in1 (Upper ToWrite noBits)) 512 11 4 ∷ refuses (in1 (ArrayOut Down 8 0)) 512 11 4 ∷ refuses (in1 (StatusOut Down 8)) 512 11 4
+    -- part 4: its length; it sleeps with power on only; a dummy byte where the part has FSTRD, with an address of its own; nine device
+    -- bytes of eight bits; /WP from the fall of /CS where the part reads it there
+    ∷ refuses (atRest 4 0 true) 2048 11 2 ∷ refuses (in4 Asleep) 16384 11 0 ∷ refuses (withStage (atRest 4 0 false) false Asleep) 16384 0 4
+    ∷ refuses (in3 (Dummy noBits 0)) 2048 11 4 ∷ refuses (in4 (Dummy 255 16383)) 16384 11 0 ∷ refuses (in4 (Dummy noBits 16384)) 16384 11 4
+    ∷ refuses (in4 (Dummy 256 0)) 16384 11 4 ∷ refuses (in4 (Ready Ident 8)) 16384 11 0 ∷ refuses (in4 (Ready Ident 9)) 16384 11 4
+    ∷ refuses (in4 (IdentOut Down 0 9)) 16384 11 4 ∷ refuses (in4 (IdentOut Down 8 0)) 16384 11 4
+    ∷ refuses (in3 (Code Down noBits)) 2048 11 4 ∷ refuses (in4 (Code Down noBits)) 16384 11 0 ∷ refuses (in4 (Keeping Down noBits)) 16384 11 0
     ∷ []
 
 -- a power-up over an array of so many bytes
