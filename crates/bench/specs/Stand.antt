@@ -4,6 +4,7 @@ use Prim.Native.Nat.{ℕ}
 use mathlib.Core.Bool.{Bool, false, cond, not, _&&_}
 use mathlib.Core.List.{List}
 use Rattle.stages.specs.Close.{isAsleep}
+use Rattle.stages.specs.Wp.{isUp}
 use Rattle.pins.specs.Levels.{soLevel}
 use Rattle.pins.specs.Watch.{isOpen, seesRise}
 use Rattle.chip.specs.declared.event.Answer.{Answer}
@@ -28,7 +29,7 @@ closes before next = isOpen before && not (isOpen next)
 unfoldable pub clockedBy : Stand → ℕ → Record
 clockedBy s code =
     cond (seesRise (s .chip) code)
-    (risen (s .told) (s .chip .si) (soLevel (s .chip)))
+    (risen (s .told) (isUp (s .chip .si)) (soLevel (s .chip)))
     (s .told)
 
 unfoldable pub shownBy : List ℕ → Stand → ℕ → List ℕ

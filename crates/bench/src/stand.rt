@@ -9,6 +9,7 @@ use report::record::Record;
 use report::record::SHOWN;
 use report::record::count;
 use stages::close::is_asleep;
+use stages::wp::is_up;
 
 pub struct Stand {
     pub chip: State,
@@ -44,7 +45,8 @@ impl Stand {
         let chip = self.chip;
         let told = self.told;
         if sees_rise(chip, code) {
-            return told.rise(chip.si, chip.so(), shown);
+            let si = chip.si;
+            return told.rise(is_up(si), chip.so(), shown);
         }
         told
     }

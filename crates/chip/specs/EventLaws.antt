@@ -1,5 +1,6 @@
 -- An event by what its checks give. Assumes nothing.
-use Prim.Native.Nat.{ℕ, _<_}
+use Prim.Native.Nat.{ℕ, _+_, _*_, _/_, _%_, _<_, _≤_}
+use native.Mathlib.Omega.{arith}
 use mathlib.Core.Path.{_≡_, refl, sym, ap, _∙_}
 use mathlib.Core.Bool.{Bool, true, false, cond, not}
 use mathlib.Core.List.{List}
@@ -13,8 +14,22 @@ use Rattle.pins.specs.Sound.{soundBy, sound}
 use Rattle.pins.specs.SoundLaws.{sound-row}
 use Rattle.laws.specs.TestLaws.{denied, granted}
 use Rattle.pins.specs.declared.state.State.{State}
-use Rattle.chip.specs.declared.event.Answer.{Answer}
 use Rattle.chip.specs.declared.step.Stepped.{Stepped}
+
+-- "its code is twice the pin number plus the level"
+module _ (code pin : ℕ) where
+  pub pin-of : pin * 2 ≤ code → code < pin * 2 + 2 → code / 2 ≡ pin
+  pin-of low high = omega (arith, low, high)
+
+  pub level-of : pin * 2 ≤ code → code < pin * 2 + 2 → eqb (code % 2) 1 ≡ eqb code (pin * 2 + 1)
+  level-of low high = go (eqb code (pin * 2 + 1)) refl
+    where
+      go : (t : Bool) → eqb code (pin * 2 + 1) ≡ t → eqb (code % 2) 1 ≡ t
+      go true e = let h = eqb-true code (pin * 2 + 1) e in eq-eqb (code % 2) 1 (omega (arith, h))
+      go false e = let h = eqb-false code (pin * 2 + 1) e in ne-eqb (code % 2) 1 (λ odd. h (omega (arith, odd, low, high)))
+
+  pub pin-past : pin * 2 + 2 ≤ code → eqb (code / 2) pin ≡ false
+  pin-past past = ne-eqb (code / 2) pin (λ e. omega (arith, e, past))
 
 module _ (f : Figure) (xs : List ℕ) (s : State) (code : ℕ) where
   by : Bool → Stepped
@@ -29,6 +44,15 @@ module _ (f : Figure) (xs : List ℕ) (s : State) (code : ℕ) where
   unfolding by
   tried-stops e = ap by e
 
+  -- where nothing is refused of the state and the array, the code alone decides
+  pub tried-known : lendRefusal s (length xs) ≡ 0 → leb 12 code ≡ false → tried f xs s code ≡ step f xs s code
+  unfolding checks
+  tried-known lent e = rw (eq-eqb _ _ lent, e)
+
+  pub tried-unknown : lendRefusal s (length xs) ≡ 0 → leb 12 code ≡ true → tried f xs s code ≡ refused 5 s
+  unfolding checks
+  tried-unknown lent e = rw (eq-eqb _ _ lent, e)
+
 module _ (xs : List ℕ) (s : State) (code : ℕ) where
   pub event-steps : eqb (checks s (length xs) code) 0 ≡ true → event xs s code ≡ answerOf (step (figureOf (s .part)) xs s code)
   unfolding event
@@ -37,6 +61,18 @@ module _ (xs : List ℕ) (s : State) (code : ℕ) where
   pub checks-none : sound s ≡ true → fitsPart (s .part) (length xs) ≡ true → leb 12 code ≡ false → checks s (length xs) code ≡ 0
   unfolding checks
   checks-none good fits known = rw (good, fits, known)
+
+  -- what is refused of the state and the array comes before 5, 6 and 7
+  checks-first : eqb (lendRefusal s (length xs)) 0 ≡ false → checks s (length xs) code ≡ lendRefusal s (length xs)
+  unfolding checks
+  checks-first e = rw e
+
+  pub event-lends : eqb (lendRefusal s (length xs)) 0 ≡ false → event xs s code ≡ answerOf (refused (lendRefusal s (length xs)) s)
+  unfolding event
+  event-lends e =
+      ap answerOf
+      (tried-stops (figureOf (s .part)) xs s code (ap (λ (n : ℕ). eqb n 0) (checks-first e) ∙ e)
+      ∙ ap (λ (n : ℕ). refused n s) (checks-first e))
 
 -- what the checks let through: the state is sound, the array is the part's
 pub lend-passed : (s : State) (len : ℕ) → lendRefusal s len ≡ 0 → (sound s ≡ true) × (fitsPart (s .part) len ≡ true)

@@ -1,9 +1,10 @@
 -- A list of events turn by turn: how one more code moves its course, and what a refused one leaves. Assumes nothing.
 use Prim.Native.Nat.{ℕ, _+_, _<_, _≤_}
 use mathlib.Core.Path.{_≡_, refl, sym, ap, _∙_}
-use mathlib.Core.Bool.{Bool, true, false, cond, not}
+use mathlib.Core.Bool.{Bool, true, false, cond}
 use mathlib.Core.List.{List, [], _∷_}
 use native.Mathlib.Numerals.{add-one}
+use native.Mathlib.Omega.{arith}
 use borrow.Author.Tests.{eq-eqb, ne-eqb, eqb-true, eqb-false, ltb-false, le-ltb}
 use lib.Dec.{eqb, ltb}
 use lib.ListN.{length, set, drop, getD}
@@ -16,10 +17,12 @@ use Rattle.select.specs.declared.notes.Note.{Note}
 use Rattle.pins.specs.Levels.{soLevel}
 use Rattle.pins.specs.Sound.{sound}
 use Rattle.pins.specs.declared.state.State.{State}
-use Rattle.chip.specs.Event.{refused, answerOf, step, first, lendRefusal, checks, tried, event, written}
+use Rattle.chip.specs.Event.{answerOf, lendRefusal, tried, event, written}
 use Rattle.chip.specs.List.{Course, setOut, tookOne, stopsAt, turn, course, listRefusal, listed}
 use Rattle.chip.specs.RefusalLaws.{refusal-told, refusal-stays}
-use Rattle.chip.specs.RunLaws.{event-part}
+use Rattle.chip.specs.EventLaws.{event-lends, lend-passed, lend-none}
+use Rattle.chip.specs.RunLaws.{event-part, written-length}
+use Rattle.chip.specs.SoundLaws.{event-sound}
 use Rattle.chip.specs.declared.event.Answer.{Answer}
 use Rattle.chip.specs.declared.step.Stepped.{Stepped}
 
@@ -65,6 +68,17 @@ module _ (xs : List ℕ) (s : State) (levels codes : List ℕ) (note : Note) (i 
     pub row-stays : f ≡ figureOf (t .state .part)
     row-stays = row ∙ ap figureOf (sym (ap (λ (a : Answer). a .state .part) told ∙ event-part s xs code))
 
+    -- nothing is refused of the next state and the array either: an event leads from a sound state to a sound one of the same
+    -- part, and what it stores keeps the array's length
+    pub lend-stays : {ys : List ℕ} → ys ≡ written (t .note) xs → lendRefusal s (length xs) ≡ 0 → lendRefusal (t .state) (length ys) ≡ 0
+    lend-stays {ys} stored lent =
+        let passed = lend-passed s (length xs) lent in
+        lend-none (t .state) (length ys)
+        (ap (λ (a : Answer). sound (a .state)) told ∙ event-sound s (passed .0) xs code)
+        (ap (λ (p : ℕ). fitsPart p (length ys)) (ap (λ (a : Answer). a .state .part) told ∙ event-part s xs code)
+        ∙ ap (fitsPart (s .part)) (ap length stored ∙ written-length (t .note) xs)
+        ∙ passed .1)
+
     pub loop-goes : (ys : List ℕ) (so : Level) (level : ℕ) → t .refusal ≡ 0
         → ys ≡ written (t .note) xs → so ≡ soLevel (t .state) → level ≡ levelNumber so
         → course (record { refusal = 0; count = i + 1; note = t .note; state = t .state; array = ys; levels = set levels i level }) (drop (i + 1) codes)
@@ -79,89 +93,6 @@ module _ (xs : List ℕ) (s : State) (levels codes : List ℕ) (note : Note) (i 
         (one-more
         ∙ ap (λ (c : Course). course c (drop (i + 1) codes)) (ap (turn here) (sym told) ∙ turn-stops here (answerOf t) e)
         ∙ course-stays (stopsAt here (t .refusal)) (drop (i + 1) codes) (ne-eqb _ _ e))
-
--- ---- what the loop over one code leaves is the event's answer
-
-abbrev stepOf : Course → Stepped
-stepOf c = record { refusal = c .refusal; note = c .note; state = c .state }
-
-module _ (xs : List ℕ) (s : State) (code : ℕ) (levels : List ℕ) where
-  abbrev start : Course
-  start = setOut 0 s xs levels
-
-  abbrev answer : Answer
-  answer = event xs s code
-
-  abbrev Tells : Course → Type 0
-  Tells c = (answerOf (stepOf c) ≡ answer) × (c .array ≡ written (answer .note) xs)
-
-  -- its level is the state's
-  same : answer ≡ answerOf (record { refusal = answer .refusal; note = answer .note; state = answer .state })
-  unfolding event
-  same = refl
-
-  turned : Tells (turn start answer)
-  turned = go (eqb (answer .refusal) 0) refl
-    where
-      go : (t : Bool) → eqb (answer .refusal) 0 ≡ t → Tells (cond t (tookOne start answer) (stopsAt start (answer .refusal)))
-      go true e = (
-        ap (λ (n : ℕ). answerOf (record { refusal = n; note = answer .note; state = answer .state })) (sym (eqb-true _ _ e)) ∙ sym same,
-        refl,
-      )
-      go false e = (sym (refusal-told s xs code e), sym (refusal-stays s xs code e))
-
-  pub single : {c : Course} → c ≡ course start (code ∷ []) → Tells c
-  unfolding course
-  single e = rw e turned
-
--- ---- the code 12 is no event: the loop over it alone says what the first checks give, and moves nothing
-
--- 5 says that they give nothing
-abbrev heard : ℕ → ℕ
-heard refusal = cond (eqb refusal 5) 0 refusal
-
-abbrev given : Bool → Bool → ℕ
-given good fits = first (cond (not good) 4 (cond (not fits) 2 0)) 5
-
-module _ (s : State) (xs levels : List ℕ) where
-  abbrev lends : ℕ
-  lends = lendRefusal s (length xs)
-
-  refused-twelve : turn (setOut 0 s xs levels) (event xs s 12) ≡ setOut (first lends 5) s xs levels
-  unfolding event checks
-  refused-twelve = go (sound s) (fitsPart (s .part) (length xs))
-    where
-      go : (a b : Bool)
-          → turn (setOut 0 s xs levels) (answerOf (cond (eqb (given a b) 0) (step (figureOf (s .part)) xs s 12) (refused (given a b) s)))
-          ≡ setOut (given a b) s xs levels
-      go true true = refl
-      go true false = refl
-      go false b = refl
-
-  heard-lends : heard (first lends 5) ≡ lends
-  heard-lends = go (sound s) (fitsPart (s .part) (length xs))
-    where
-      go : (a b : Bool) → heard (given a b) ≡ cond (not a) 4 (cond (not b) 2 0)
-      go true true = refl
-      go true false = refl
-      go false b = refl
-
-  module _ {c : Course} (ran : c ≡ course (setOut 0 s xs levels) (12 ∷ [])) where
-    asked : c ≡ setOut (first lends 5) s xs levels
-    unfolding course
-    asked = ran ∙ refused-twelve
-
-    said : heard (c .refusal) ≡ lends
-    said = ap (λ (d : Course). heard (d .refusal)) asked ∙ heard-lends
-
-    pub asked-none : c .refusal ≡ 5 → 0 ≡ lends
-    asked-none e = ap heard (sym e) ∙ said
-
-    pub asked-some : (c .refusal ≡ 5 → ⊥) → c .refusal ≡ lends
-    asked-some e = rw (ne-eqb _ _ e) at said
-
-    pub asked-stays : c .array ≡ xs
-    asked-stays = ap (λ (d : Course). d .array) asked
 
 -- ---- the call, by what its first checks give
 
@@ -193,25 +124,80 @@ pub list-none : (s : State) (len codes levels : ℕ) → lendRefusal s len ≡ 0
 unfolding listRefusal
 list-none s len codes levels fine enough = rw (eq-eqb _ _ fine, le-ltb levels codes enough)
 
--- the answers have room where nothing is given
-pub call-room : (lent codes levels : ℕ) {r : ℕ} → r ≡ first lent (cond (ltb levels codes) 12 0) → r ≡ 0 → codes ≤ levels
-call-room lent codes levels told e = go (eqb lent 0) (ltb levels codes) refl refl (sym told ∙ e)
-  where
-    go : (fine short : Bool) → eqb lent 0 ≡ fine → ltb levels codes ≡ short → cond fine (cond short 12 0) lent ≡ 0 → codes ≤ levels
-    go true true p q h = absurd (eqb-false 12 0 refl h)
-    go true false p q h = ltb-false _ _ q
-    go false short p q h = absurd (eqb-false _ _ p h)
+-- the call: what it asked first is what its checks give
+module _ (xs : List ℕ) (s : State) (codes levels : List ℕ) {r : ℕ} (told : r ≡ listRefusal s (length xs) (length codes) (length levels)) where
+  -- the loop may run: nothing is refused of what is lent, and the answers have room
+  pub call-passed : r ≡ 0 → (lendRefusal s (length xs) ≡ 0) × (length codes ≤ length levels)
+  call-passed e = list-passed s (length xs) (length codes) (length levels) (sym told ∙ e)
 
--- the call: what it asked first is what its checks give, and the array is as it was
-module _ (xs : List ℕ) (s : State) (codes levels : List ℕ) {lent r : ℕ} {ys : List ℕ} (lend : lent ≡ lendRefusal s (length xs)) (stays : ys ≡ xs)
-    (told : r ≡ first lent (cond (ltb (length levels) (length codes)) 12 0)) where
-  found : r ≡ listRefusal s (length xs) (length codes) (length levels)
+  pub call-runs : {c : Course} → r ≡ 0 → c ≡ course (setOut 0 s xs levels) codes → c ≡ listed xs s codes levels
+  call-runs e ran = ran ∙ sym (listed-runs xs s codes levels (sym told ∙ e))
+
+  pub call-stops : (r ≡ 0 → ⊥) → setOut r s xs levels ≡ listed xs s codes levels
+  call-stops e = rw told (sym (listed-stops xs s codes levels (λ z. e (told ∙ z))))
+
+-- ---- one event is the list of one code
+
+module _ (xs : List ℕ) (s : State) (code level : ℕ) (levels : List ℕ) where
+  abbrev lends : ℕ
+  lends = lendRefusal s (length xs)
+
+  abbrev whole-list : Course
+  whole-list = listed xs s (code ∷ []) (level ∷ levels)
+
+  abbrev one-turn : Course
+  one-turn = turn (setOut 0 s xs (level ∷ levels)) (event xs s code)
+
+  checked-first : eqb lends 0 ≡ false → listRefusal s (length xs) (length (code ∷ [])) (length (level ∷ levels)) ≡ lends
   unfolding listRefusal
-  found = told ∙ ap (λ (n : ℕ). first n (cond (ltb (length levels) (length codes)) 12 0)) lend
+  checked-first e = rw e
 
-  pub call-runs : {c : Course} → r ≡ 0 → c ≡ course (setOut 0 s ys levels) codes → c ≡ listed xs s codes levels
-  call-runs e ran =
-      ran ∙ ap (λ (zs : List ℕ). course (setOut 0 s zs levels) codes) stays ∙ sym (listed-runs xs s codes levels (sym found ∙ e))
+  pub one-code : whole-list ≡ one-turn
+  unfolding course
+  one-code = go (eqb lends 0) refl
+    where
+      runs-on : eqb lends 0 ≡ true → whole-list ≡ one-turn
+      runs-on e =
+          listed-runs xs s (code ∷ []) (level ∷ levels)
+          (list-none s (length xs) (length (code ∷ [])) (length (level ∷ levels)) (eqb-true _ _ e) (omega arith))
 
-  pub call-stops : (r ≡ 0 → ⊥) → setOut r s ys levels ≡ listed xs s codes levels
-  call-stops e = rw (found, stays) (sym (listed-stops xs s codes levels (λ z. e (found ∙ z))))
+      stops : eqb lends 0 ≡ false → whole-list ≡ one-turn
+      stops e =
+          listed-stops xs s (code ∷ []) (level ∷ levels) (λ h. eqb-false _ _ e (sym (checked-first e) ∙ h))
+          ∙ rw (checked-first e, event-lends xs s code e, e)
+
+      go : (t : Bool) → eqb lends 0 ≡ t → whole-list ≡ one-turn
+      go true e = runs-on e
+      go false e = stops e
+
+abbrev stepOf : Course → Stepped
+stepOf c = record { refusal = c .refusal; note = c .note; state = c .state }
+
+module _ (xs : List ℕ) (s : State) (code level : ℕ) (levels : List ℕ) where
+  abbrev start : Course
+  start = setOut 0 s xs (level ∷ levels)
+
+  abbrev answer : Answer
+  answer = event xs s code
+
+  abbrev Tells : Course → Type 0
+  Tells c = (answerOf (stepOf c) ≡ answer) × (c .array ≡ written (answer .note) xs)
+
+  -- its level is the state's
+  same : answer ≡ answerOf (record { refusal = answer .refusal; note = answer .note; state = answer .state })
+  unfolding event
+  same = refl
+
+  turned : Tells (turn start answer)
+  turned = go (eqb (answer .refusal) 0) refl
+    where
+      go : (t : Bool) → eqb (answer .refusal) 0 ≡ t → Tells (cond t (tookOne start answer) (stopsAt start (answer .refusal)))
+      go true e = (
+        ap (λ (n : ℕ). answerOf (record { refusal = n; note = answer .note; state = answer .state })) (sym (eqb-true _ _ e)) ∙ sym same,
+        refl,
+      )
+      go false e = (sym (refusal-told s xs code e), sym (refusal-stays s xs code e))
+
+  -- what a list of one code leaves is the event's answer
+  pub single : {c : Course} → c ≡ listed xs s (code ∷ []) (level ∷ levels) → Tells c
+  single e = rw (e ∙ one-code xs s code level levels) turned

@@ -1,6 +1,6 @@
 -- The list call among the others: it leaves what the chip's run over the accepted events leaves, and a list in two pieces is
 -- the list in one. Assumes nothing.
-use Prim.Native.Nat.{ℕ, suc, _+_, _≤_, zero-le}
+use Prim.Native.Nat.{ℕ, suc, _+_, _≤_}
 use mathlib.Core.Path.{_≡_, refl, sym, ap, _∙_}
 use mathlib.Core.Bool.{Bool, true, false, cond}
 use mathlib.Core.List.{List, [], _∷_, _++_}
@@ -10,15 +10,15 @@ use borrow.Author.Tests.{ne-eqb, eqb-true, eqb-false, le-ltb}
 use lib.Dec.{eqb}
 use lib.ListN.{length, set, take, drop, length-set, length-append, length-drop, take-append-drop}
 use lib.Seq.{length-take-le}
-use Rattle.parts.specs.Figures.{figureOf, fitsPart}
+use Rattle.parts.specs.Figures.{fitsPart}
 use Rattle.pins.specs.Sound.{sound}
 use Rattle.pins.specs.declared.state.State.{State}
 use Rattle.select.specs.Notes.{levelNumber}
 use Rattle.select.specs.declared.notes.Note.{Note}
-use Rattle.chip.specs.Event.{refused, answerOf, lendRefusal, checks, event, written}
+use Rattle.chip.specs.Event.{lendRefusal, event, written}
 use Rattle.chip.specs.List.{Course, setOut, tookOne, stopsAt, turn, course, listRefusal, listed}
 use Rattle.chip.specs.ListLaws.{course-stays, listed-runs, listed-stops, list-passed, list-none}
-use Rattle.chip.specs.EventLaws.{lend-passed, lend-none, tried-stops}
+use Rattle.chip.specs.EventLaws.{lend-passed, lend-none}
 use Rattle.chip.specs.Run.{Chip, next, run}
 use Rattle.chip.specs.RunLaws.{run-part, run-length, run-sound}
 use Rattle.chip.specs.declared.event.Answer.{Answer}
@@ -82,51 +82,6 @@ module _ (xs : List ℕ) (s : State) (codes levels : List ℕ) where
       go : (t : Bool) → eqb (listRefusal s (length xs) (length codes) (length levels)) 0 ≡ t → Goal (listed xs s codes levels)
       go true e = rw (listed-runs xs s codes levels (eqb-true _ _ e)) ran
       go false e = rw (listed-stops xs s codes levels (eqb-false _ _ e)) refl
-
--- ---- one event is the list of one code
-
-module _ (xs : List ℕ) (s : State) (code level : ℕ) (levels : List ℕ) where
-  abbrev lends : ℕ
-  lends = lendRefusal s (length xs)
-
-  abbrev whole-list : Course
-  whole-list = listed xs s (code ∷ []) (level ∷ levels)
-
-  abbrev one-turn : Course
-  one-turn = turn (setOut 0 s xs (level ∷ levels)) (event xs s code)
-
-  checks-first : eqb lends 0 ≡ false → checks s (length xs) code ≡ lends
-  unfolding checks
-  checks-first e = rw e
-
-  refused-first : eqb lends 0 ≡ false → event xs s code ≡ answerOf (refused lends s)
-  unfolding event
-  refused-first e =
-      ap answerOf
-      (tried-stops (figureOf (s .part)) xs s code (ap (λ (n : ℕ). eqb n 0) (checks-first e) ∙ e)
-      ∙ ap (λ (n : ℕ). refused n s) (checks-first e))
-
-  checked-first : eqb lends 0 ≡ false → listRefusal s (length xs) (length (code ∷ [])) (length (level ∷ levels)) ≡ lends
-  unfolding listRefusal
-  checked-first e = rw e
-
-  pub one-code : whole-list ≡ one-turn
-  unfolding course
-  one-code = go (eqb lends 0) refl
-    where
-      runs-on : eqb lends 0 ≡ true → whole-list ≡ one-turn
-      runs-on e =
-          listed-runs xs s (code ∷ []) (level ∷ levels)
-          (list-none s (length xs) (length (code ∷ [])) (length (level ∷ levels)) (eqb-true _ _ e) (omega arith))
-
-      stops : eqb lends 0 ≡ false → whole-list ≡ one-turn
-      stops e =
-          listed-stops xs s (code ∷ []) (level ∷ levels) (λ h. eqb-false _ _ e (sym (checked-first e) ∙ h))
-          ∙ rw (checked-first e, refused-first e, e)
-
-      go : (t : Bool) → eqb lends 0 ≡ t → whole-list ≡ one-turn
-      go true e = runs-on e
-      go false e = stops e
 
 -- ---- a list in two pieces
 

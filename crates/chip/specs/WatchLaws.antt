@@ -11,13 +11,13 @@ use Rattle.parts.specs.Figures.{figureOf}
 use Rattle.laws.specs.TestLaws.{left, right, choose}
 use Rattle.parts.specs.declared.figures.Figure.{Figure}
 use Rattle.stages.specs.Close.{isClosed, drops, afterClose, afterFall}
+use Rattle.stages.specs.Wp.{isUp}
 use Rattle.stages.specs.declared.stage.Stage.{Stage}
 use Rattle.stages.specs.declared.stage.Stage.the-variants.{Closed, Code, Upper, Lower, Ready, ArrayOut, StatusOut, Writing, Keeping, Over, Dummy, IdentOut, Asleep}
 use Rattle.select.specs.declared.rise.Seen.{Seen}
 use Rattle.select.specs.Rise.{rise}
 use Rattle.pins.specs.Edges.{silent, withSck, seenBy, rose, shown, csFall, csRise, sckRise, sckFall, holdFall, holdRise}
 use Rattle.pins.specs.Levels.{holdHigh, csLevel}
-use Rattle.pins.specs.SoundLaws.{closed-is}
 use Rattle.pins.specs.Watch.{isOpen, seesRise}
 use Rattle.pins.specs.declared.state.State.{State}
 use Rattle.pins.specs.declared.state.Moved.{Moved}
@@ -28,7 +28,7 @@ use Rattle.chip.specs.declared.step.Stepped.{Stepped}
 -- the stage after an event that takes no bit: as it was, or a select opened or closed, or the supply was cut, or a fall of SCK
 pub data Unclocked (f : Figure) (xs : List ℕ) (s : State) : Stage → Type 0 where
   same : Unclocked f xs s (s .stage)
-  opens : Unclocked f xs s (afterFall f (s .wp) (s .stage))
+  opens : Unclocked f xs s (afterFall f (isUp (s .wp)) (s .stage))
   closes : Unclocked f xs s (afterClose (s .stage))
   cuts : Unclocked f xs s Closed
   falls : Unclocked f xs s (shown f xs s)

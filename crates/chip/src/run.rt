@@ -1,12 +1,12 @@
-// The loop over event codes that the event call and the list call share. It alone calls `step` and tests the state: a large
-// function called at one place stays in the loop when it is compiled (docs/SPEED.md).
+// The loop over event codes that the event call and the list call share, and the checks before it. The loop alone calls `step`: a
+// large function called at one place stays in the loop when it is compiled (docs/SPEED.md).
 ghost use mathlib.Core.Path.{_≡_};
 ghost use Prim.Native.Nat.{_≤_};
 ghost use lib.ListN.{length};
 ghost use Rattle.parts.specs.Figures.{figureOf};
 ghost use Rattle.select.specs.Notes.{levelNumber};
-ghost use Rattle.chip.specs.Event.{lendRefusal, checks, tried};
-ghost use Rattle.chip.specs.List.{setOut, course};
+ghost use Rattle.chip.specs.Event.{lendRefusal, tried};
+ghost use Rattle.chip.specs.List.{setOut, course, listRefusal, listed};
 ghost use Rattle.chip.specs.Loop.{courseOf};
 use crate::step::Stepped;
 use crate::step::refuse;
@@ -42,30 +42,31 @@ fn lend_refusal(f: Figure, state: State, len: usize) -> u8
     0
 }
 
-// The refusals of an event that need no look at the lines; 0 where none is given.
-fn checks(f: Figure, state: State, len: usize, code: u64) -> u8
+// The refusals that come before the first event; 0 where none is given.
+fn list_refusal(f: Figure, state: State, len: usize, codes: usize, levels: usize) -> u8
     requires { ⌜ f ≡ figureOf (state .part) ⌝ }
-    ensures { λ r. ⌜ r ≡ checks state len code ⌝ }
+    ensures { λ r. ⌜ r ≡ listRefusal state len codes levels ⌝ }
 {
-    let refusal = lend_refusal(f, state, len);
-    if refusal != 0 {
-        return refusal;
+    let lent = lend_refusal(f, state, len);
+    if lent != 0 {
+        return lent;
     }
-    if 12 <= code {
-        return 5;
+    if levels < codes {
+        return 12;
     }
     0
 }
 
+// One event where nothing is refused of the state and the array: 5 is all that is left to check before the step.
 fn attempt(f: Figure, state: State, array: &[u8], code: u64) -> Stepped
     requires { ⌜ f ≡ figureOf (state .part) ⌝ }
+    requires { ⌜ lendRefusal state (length (now array)) ≡ 0 ⌝ }
     ensures { λ r. ⌜ r ≡ tried f (now (array .entry)) state code ⌝ }
 {
-    let refusal = checks(f, state, array.len(), code);
-    if refusal == 0 {
-        step(f, state, array, code as u8)
+    if 12 <= code {
+        refuse(5, state)
     } else {
-        refuse(refusal, state)
+        step(f, state, array, code as u8)
     }
 }
 
@@ -79,13 +80,16 @@ fn level_number(level: Level) -> u8
     }
 }
 
-// The codes one after the other, up to the first refusal, each one's level of SO at its own place.
-pub(crate) fn run(state: State, array: &mut [u8], codes: &[u64], levels: &mut [u8]) -> Ran
+// The codes one after the other, up to the first refusal, each one's level of SO at its own place. Nothing is refused of the state
+// and the array before the first, so nothing is before any other: an event leads to a sound state of the same part, and what it
+// stores keeps the array's length (document 02, Wish 10).
+fn go(f: Figure, state: State, array: &mut [u8], codes: &[u64], levels: &mut [u8]) -> Ran
+    requires { ⌜ f ≡ figureOf (state .part) ⌝ }
+    requires { ⌜ lendRefusal state (length (now array)) ≡ 0 ⌝ }
     requires { ⌜ length (now codes) ≤ length (now levels) ⌝ }
     ensures { λ r. ⌜ courseOf r (now (array .exit)) (now (levels .exit))
         ≡ course (setOut 0 state (now (array .entry)) (now (levels .entry))) (now (codes .entry)) ⌝ }
 {
-    let f = figure_of(state.part as u64);
     let mut state = state;
     let mut note = Note::Nothing;
     let mut i = 0;
@@ -112,5 +116,24 @@ pub(crate) fn run(state: State, array: &mut [u8], codes: &[u64], levels: &mut [u
         count: i,
         note,
         state,
+    }
+}
+
+// A list of codes, or the one of a single event. The part's row is read here, and the state tested, once.
+pub(crate) fn run(state: State, array: &mut [u8], codes: &[u64], levels: &mut [u8]) -> Ran
+    ensures { λ r. ⌜ courseOf r (now (array .exit)) (now (levels .exit))
+        ≡ listed (now (array .entry)) state (now (codes .entry)) (now (levels .entry)) ⌝ }
+{
+    let f = figure_of(state.part as u64);
+    let refusal = list_refusal(f, state, array.len(), codes.len(), levels.len());
+    if refusal == 0 {
+        go(f, state, array, codes, levels)
+    } else {
+        Ran {
+            refusal,
+            count: 0,
+            note: Note::Nothing,
+            state,
+        }
     }
 }

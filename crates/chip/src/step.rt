@@ -1,5 +1,9 @@
 // The step of one event: what it does where the checks 4, 2 and 5 let it through.
+ghost use mathlib.Core.Bool.{true, false};
+ghost use mathlib.Core.List.{[]};
 ghost use mathlib.Core.Path.{_≡_};
+ghost use Prim.Native.Nat.{_/_, _%_};
+ghost use lib.Dec.{eqb};
 ghost use Rattle.chip.specs.Event.{accepted, refused, csTo, sckTo, csStayed, holdUp, holdTo, vddTo, live, dark, step, written};
 ghost use Rattle.pins.specs.Edges.{siTo, wpTo};
 use parts::figures::Figure;
@@ -50,21 +54,24 @@ fn cs_to(state: State, f: Figure, level: bool) -> Moved
     }
 }
 
-fn sck_to(state: State, f: Figure, array: &[u8], level: bool) -> Moved
-    ensures { λ r. ⌜ r ≡ sckTo f (now (array .entry)) state level ⌝ }
+fn sck_low(state: State, f: Figure, array: &[u8]) -> Moved
+    ensures { λ r. ⌜ r ≡ sckTo f (now (array .entry)) state false ⌝ }
 {
-    if level {
-        if state.sck {
-            state.silent()
-        } else {
-            state.sck_rise(f)
-        }
+    if state.sck {
+        state.sck_fall(f, array)
     } else {
-        if state.sck {
-            state.sck_fall(f, array)
-        } else {
-            state.silent()
-        }
+        state.silent()
+    }
+}
+
+// A rise reads no array.
+fn sck_high(state: State, f: Figure) -> Moved
+    ensures { λ r. ⌜ r ≡ sckTo f [] state true ⌝ }
+{
+    if state.sck {
+        state.silent()
+    } else {
+        state.sck_rise(f)
     }
 }
 
@@ -147,17 +154,18 @@ fn vdd_to(state: State, level: bool) -> Moved
     }
 }
 
-// An event with power on: the pin, and the level that it is set to.
-fn live(f: Figure, state: State, array: &[u8], pin: u8, level: bool) -> Stepped
-    ensures { λ r. ⌜ r ≡ live f (now (array .entry)) state pin level ⌝ }
+// An event with power on. By the code and not by pin and level, so that each edge of SCK has one way (docs/SPEED.md).
+fn live(f: Figure, state: State, array: &[u8], code: u8) -> Stepped
+    ensures { λ r. ⌜ r ≡ live f (now (array .entry)) state (code / 2) (eqb (code % 2) 1) ⌝ }
 {
-    match pin {
-        0 => accept(cs_to(state, f, level)),
-        1 => accept(sck_to(state, f, array, level)),
-        2 => accept(si_to(state, level)),
-        3 => hold_to(state, level),
-        4 => accept(wp_to(state, level)),
-        _ => accept(vdd_to(state, level)),
+    match code {
+        0 | 1 => accept(cs_to(state, f, code == 1)),
+        2 => accept(sck_low(state, f, array)),
+        3 => accept(sck_high(state, f)),
+        4 | 5 => accept(si_to(state, code == 5)),
+        6 | 7 => hold_to(state, code == 7),
+        8 | 9 => accept(wp_to(state, code == 9)),
+        _ => accept(vdd_to(state, code % 2 == 1)),
     }
 }
 
@@ -177,7 +185,7 @@ pub(crate) fn step(f: Figure, state: State, array: &[u8], code: u8) -> Stepped
     ensures { λ r. ⌜ r ≡ step f (now (array .entry)) state code ⌝ }
 {
     if state.power {
-        live(f, state, array, code / 2, code % 2 == 1)
+        live(f, state, array, code)
     } else {
         dark(state, code)
     }

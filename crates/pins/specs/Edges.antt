@@ -10,6 +10,8 @@ use Rattle.select.specs.Rise.{rise}
 use Rattle.select.specs.declared.notes.Note.the-variants.{Nothing, Latch, PowerLost}
 use Rattle.select.specs.declared.rise.Seen.{Seen}
 use Rattle.select.specs.declared.rise.Risen.{Risen}
+use Rattle.stages.specs.Wp.{lineOf, isUp}
+use Rattle.stages.specs.declared.stage.Line.{Line}
 use Rattle.stages.specs.declared.stage.Stage.{Stage}
 use Rattle.pins.specs.Levels.{atRest, holdHigh, csLevel}
 use Rattle.pins.specs.declared.hold.Hold.{Hold}
@@ -18,7 +20,7 @@ use Rattle.pins.specs.declared.state.State.{State}
 use Rattle.pins.specs.declared.state.Moved.{Moved}
 
 -- a state with other lines, latch and stage; with one line, or with latch and stage changed
-abbrev pub with : State → Bool → Bool → Bool → Hold → Bool → Stage → State
+abbrev pub with : State → Bool → Line → Line → Hold → Bool → Stage → State
 with s sck si wp hold latch stage =
     record {
       part = s .part;
@@ -36,10 +38,10 @@ abbrev pub withSck : State → Bool → State
 withSck s level = with s level (s .si) (s .wp) (s .hold) (s .latch) (s .stage)
 
 abbrev pub withSi : State → Bool → State
-withSi s level = with s (s .sck) level (s .wp) (s .hold) (s .latch) (s .stage)
+withSi s level = with s (s .sck) (lineOf level) (s .wp) (s .hold) (s .latch) (s .stage)
 
 abbrev pub withWp : State → Bool → State
-withWp s level = with s (s .sck) (s .si) level (s .hold) (s .latch) (s .stage)
+withWp s level = with s (s .sck) (s .si) (lineOf level) (s .hold) (s .latch) (s .stage)
 
 abbrev pub withHold : State → Hold → State
 withHold s hold = with s (s .sck) (s .si) (s .wp) hold (s .latch) (s .stage)
@@ -54,7 +56,7 @@ silent s = record { state = s; note = Nothing }
 -- "A seen fall of /CS opens a select", "SCK may stand high or low at the fall (modes 0 and 3)." "the next fall of /S wakes the
 --  chip"
 unfoldable pub csFall : Figure → State → Moved
-csFall f s = silent (cond (holdHigh (s .hold)) (withStage s (s .latch) (afterFall f (s .wp) (s .stage))) (withHold s LowCsLow))
+csFall f s = silent (cond (holdHigh (s .hold)) (withStage s (s .latch) (afterFall f (isUp (s .wp)) (s .stage))) (withHold s LowCsLow))
 
 -- "a seen rise closes it and releases SO". "The note then is latch 0 if the latch was set, else nothing." "SLEEP B9h takes effect
 --  at the rise of /S"
@@ -69,7 +71,7 @@ csRise s = cond (holdHigh (s .hold)) (closed s) (silent (withHold s LowCsHigh))
 
 -- "Each seen rise of SCK in an open select takes SI"
 abbrev pub seenBy : State → Seen
-seenBy s = record { latch = s .latch; kept = s .kept; wp = s .wp; si = s .si }
+seenBy s = record { latch = s .latch; kept = s .kept; wp = isUp (s .wp); si = isUp (s .si) }
 
 abbrev pub rose : State → Risen → Moved
 rose s r =

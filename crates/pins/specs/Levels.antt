@@ -5,6 +5,7 @@ use Rattle.stages.specs.Close.{isClosed}
 use Rattle.select.specs.Fall.{stageLevel}
 use Rattle.select.specs.declared.notes.Level.{Level}
 use Rattle.select.specs.declared.notes.Level.the-variants.{Released}
+use Rattle.stages.specs.declared.stage.Line.the-variants.{Down, Up}
 use Rattle.stages.specs.declared.stage.Stage.{Stage}
 use Rattle.stages.specs.declared.stage.Stage.the-variants.{Closed}
 use Rattle.pins.specs.declared.hold.Hold.{Hold}
@@ -20,8 +21,8 @@ atRest part kept power =
       kept = kept;
       power = power;
       sck = false;
-      si = false;
-      wp = true;
+      si = Down;
+      wp = Up;
       latch = false;
       hold = High;
       stage = Closed;

@@ -6,13 +6,14 @@ use Rattle.parts.specs.Figures.{figureOf, isPart, underMask}
 use Rattle.parts.specs.declared.figures.Figure.{Figure}
 use Rattle.stages.specs.Close.{isClosed, isAsleep}
 use Rattle.stages.specs.Sound.{soundStage}
+use Rattle.stages.specs.Wp.{isUp}
 use Rattle.pins.specs.Levels.{holdHigh}
 use Rattle.pins.specs.declared.state.State.{State}
 
 -- every line and bit but the kept ones as at power-up
 unfoldable pub rests : State → Bool
 rests s =
-    not (s .sck) && not (s .si) && s .wp && not (s .latch) && holdHigh (s .hold) && isClosed (s .stage) && not (isAsleep (s .stage))
+    not (s .sck) && not (isUp (s .si)) && isUp (s .wp) && not (s .latch) && holdHigh (s .hold) && isClosed (s .stage) && not (isAsleep (s .stage))
 
 -- by the figures of the state's part
 abbrev pub soundBy : Figure → State → Bool

@@ -11,9 +11,10 @@ use Rattle.parts.specs.declared.figures.Figure.{Figure}
 use Rattle.laws.specs.TestLaws.{both, left, right, choose}
 use Rattle.stages.specs.Bits.{noBits}
 use Rattle.stages.specs.Close.{isClosed, isAsleep, endOf, drops, closedBy, afterFall}
-use Rattle.stages.specs.Wp.{fallWp}
+use Rattle.stages.specs.Wp.{isUp, fallWp}
 use Rattle.stages.specs.declared.stage.End.{End}
 use Rattle.stages.specs.declared.stage.End.the-variants.{Quiet, Drops, Sleeps}
+use Rattle.stages.specs.declared.stage.Line.{Line}
 use Rattle.stages.specs.declared.stage.Line.the-variants.{Down, Up}
 use Rattle.select.specs.Fall.{statusByte}
 use Rattle.stages.specs.Sound.{soundStage}
@@ -78,17 +79,17 @@ closed-is (IdentOut level bit at) h = cc
 closed-is Asleep h = cc
 
 rest-of :
-    (part kept : ℕ) (power sck si wp latch : Bool) (hold : Hold) (stage : Stage)
-    → (not sck && not si && wp && not latch && holdHigh hold && isClosed stage && not (isAsleep stage)) ≡ true
+    (part kept : ℕ) (power sck : Bool) (si wp : Line) (latch : Bool) (hold : Hold) (stage : Stage)
+    → (not sck && not (isUp si) && isUp wp && not latch && holdHigh hold && isClosed stage && not (isAsleep stage)) ≡ true
     → _≡_ {A = State}
     (record { part = part; kept = kept; power = power; sck = sck; si = si; wp = wp; latch = latch; hold = hold; stage = stage })
     (atRest part kept power)
-rest-of part kept power false false true false High stage h = rw (closed-is stage h)
-rest-of part kept power false false true false LowCsLow stage h = cc
-rest-of part kept power false false true false LowCsHigh stage h = cc
-rest-of part kept power false false true true hold stage h = cc
-rest-of part kept power false false false latch hold stage h = cc
-rest-of part kept power false true wp latch hold stage h = cc
+rest-of part kept power false Down Up false High stage h = rw (closed-is stage h)
+rest-of part kept power false Down Up false LowCsLow stage h = cc
+rest-of part kept power false Down Up false LowCsHigh stage h = cc
+rest-of part kept power false Down Up true hold stage h = cc
+rest-of part kept power false Down Down latch hold stage h = cc
+rest-of part kept power false Up wp latch hold stage h = cc
 rest-of part kept power true si wp latch hold stage h = cc
 
 -- "power off in another form than the off state": what rests has the form of the off state in every field
@@ -137,7 +138,7 @@ module _ (s : State) (h : sound s ≡ true) (on : s .power ≡ true) where
   pub cs-fall : Keeps (csFall (figureOf (s .part)) s)
   unfolding csFall
   cs-fall =
-      choose Sound (holdHigh (s .hold)) (staged _ refl refl refl (fall-opens (figureOf (s .part)) (s .wp) (s .stage))) (kept-on _ refl refl refl refl)
+      choose Sound (holdHigh (s .hold)) (staged _ refl refl refl (fall-opens (figureOf (s .part)) (isUp (s .wp)) (s .stage))) (kept-on _ refl refl refl refl)
 
   pub cs-rise : Keeps (csRise s)
   unfolding csRise

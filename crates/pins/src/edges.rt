@@ -16,6 +16,8 @@ use select::rise::rise;
 use stages::close::after_close;
 use stages::close::after_fall;
 use stages::close::drops;
+use stages::stage::Line;
+use stages::wp::is_up;
 
 impl State {
     // This state, with the note nothing.
@@ -35,7 +37,8 @@ impl State {
         let hold = self.hold;
         let stage = self.stage;
         if hold_high(hold) {
-            let next = after_fall(f, self.wp, stage);
+            let wp = self.wp;
+            let next = after_fall(f, is_up(wp), stage);
             let state = State {
                 stage: next,
                 ..self
@@ -104,11 +107,13 @@ impl State {
         let hold = self.hold;
         let stage = self.stage;
         if hold_high(hold) {
+            let si = self.si;
+            let wp = self.wp;
             let seen = Seen {
                 latch: self.latch,
                 kept: self.kept,
-                wp: self.wp,
-                si: self.si,
+                wp: is_up(wp),
+                si: is_up(si),
             };
             let risen = rise(f, seen, stage);
             let next = risen.stage;
@@ -161,14 +166,20 @@ impl State {
     pub fn si_rise(self) -> Moved
         ensures { λ r. ⌜ r ≡ siTo self true ⌝ }
     {
-        let state = State { si: true, ..self };
+        let state = State {
+            si: Line::Up,
+            ..self
+        };
         state.silent()
     }
 
     pub fn si_fall(self) -> Moved
         ensures { λ r. ⌜ r ≡ siTo self false ⌝ }
     {
-        let state = State { si: false, ..self };
+        let state = State {
+            si: Line::Down,
+            ..self
+        };
         state.silent()
     }
 
@@ -205,14 +216,20 @@ impl State {
     pub fn wp_rise(self) -> Moved
         ensures { λ r. ⌜ r ≡ wpTo self true ⌝ }
     {
-        let state = State { wp: true, ..self };
+        let state = State {
+            wp: Line::Up,
+            ..self
+        };
         state.silent()
     }
 
     pub fn wp_fall(self) -> Moved
         ensures { λ r. ⌜ r ≡ wpTo self false ⌝ }
     {
-        let state = State { wp: false, ..self };
+        let state = State {
+            wp: Line::Down,
+            ..self
+        };
         state.silent()
     }
 

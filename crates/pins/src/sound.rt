@@ -9,6 +9,7 @@ use parts::figures::is_part;
 use stages::close::is_asleep;
 use stages::close::is_closed;
 use stages::sound::sound_stage;
+use stages::wp::is_up;
 
 // Whether every line and bit but the kept ones is as at power-up.
 fn rests(s: State) -> bool
@@ -16,7 +17,15 @@ fn rests(s: State) -> bool
 {
     let hold = s.hold;
     let stage = s.stage;
-    !s.sck & !s.si & s.wp & !s.latch & hold_high(hold) & is_closed(stage) & !is_asleep(stage)
+    let si = s.si;
+    let wp = s.wp;
+    !s.sck
+        & !is_up(si)
+        & is_up(wp)
+        & !s.latch
+        & hold_high(hold)
+        & is_closed(stage)
+        & !is_asleep(stage)
 }
 
 // The test by figures that the caller has read. Power off has one form, the off state. One test after the other: with power

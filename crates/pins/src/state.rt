@@ -6,17 +6,18 @@ use select::fall::stage_level;
 use select::notes::Level;
 use select::notes::Note;
 use stages::close::is_closed;
+use stages::stage::Line;
 use stages::stage::Stage;
 
 // With /HOLD high the level of /CS is high exactly where no select is open, so it has no field of its own. What SO
-// shows is in the stage.
+// shows is in the stage. SI and /WP are only carried along by most events, so they are no bools (docs/SPEED.md).
 pub struct State {
     pub part: u8,
     pub kept: u8,
     pub power: bool,
     pub sck: bool,
-    pub si: bool,
-    pub wp: bool,
+    pub si: Line,
+    pub wp: Line,
     pub latch: bool,
     pub hold: Hold,
     pub stage: Stage,
@@ -38,8 +39,8 @@ impl State {
             kept,
             power,
             sck: false,
-            si: false,
-            wp: true,
+            si: Line::Down,
+            wp: Line::Up,
             latch: false,
             hold: Hold::High,
             stage: Stage::Closed,

@@ -40,12 +40,16 @@ pub enum End {
 }
 
 // `shift` is the bits of a byte that came so far, the newest lowest, with a 1 before them: 1 is none yet.
-// The order of the cases is timed too (docs/SPEED.md): what part 4 alone has in a select stands last.
+// The order of the cases is timed too (docs/SPEED.md): what a rise leaves alone stands first, what drives SO last.
 pub enum Stage {
     // No select is open.
     Closed,
     // No select is open, and the chip sleeps.
     Asleep,
+    // Nothing more happens in this select.
+    Over {
+        end: End,
+    },
     // The op-code. `wp` is /WP as it stood at the fall of /CS, where the part reads it there, else up.
     Code {
         wp: Line,
@@ -62,9 +66,25 @@ pub enum Stage {
         shift: u16,
         page: u32,
     },
+    // The dummy byte after an FSTRD's address, where the part has one.
+    Dummy {
+        shift: u16,
+        at: usize,
+    },
     // The header is whole, and its first fall is still to come.
     Ready {
         what: What,
+        at: usize,
+    },
+    // WRSR's first data byte, and a WRITE's data. Each remembers /WP as it stood at the byte's first rise, up where no bit of
+    // one came; WRSR's as it stood at the fall of /CS, where the part reads it there.
+    Keeping {
+        wp: Line,
+        shift: u16,
+    },
+    Writing {
+        came: Came,
+        shift: u16,
         at: usize,
     },
     // Bit number `bit` of a byte stands on SO, at the level that it had at its fall.
@@ -76,26 +96,6 @@ pub enum Stage {
     StatusOut {
         level: Line,
         bit: u16,
-    },
-    // A WRITE's data, and WRSR's first data byte. Each remembers /WP as it stood at the byte's first rise, up where no bit of
-    // one came; WRSR's as it stood at the fall of /CS, where the part reads it there.
-    Writing {
-        came: Came,
-        shift: u16,
-        at: usize,
-    },
-    Keeping {
-        wp: Line,
-        shift: u16,
-    },
-    // Nothing more happens in this select.
-    Over {
-        end: End,
-    },
-    // The dummy byte after an FSTRD's address, where the part has one.
-    Dummy {
-        shift: u16,
-        at: usize,
     },
     // A bit of the identification stands on SO.
     IdentOut {

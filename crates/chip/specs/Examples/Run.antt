@@ -184,7 +184,7 @@ holdNumber LowCsHigh = 2
 -- every field of a state
 abbrev pub stateNumbers : State → List ℕ
 stateNumbers s =
-    s .part ∷ s .kept ∷ lowBit (s .power) ∷ lowBit (s .sck) ∷ lowBit (s .si) ∷ lowBit (s .wp) ∷ lowBit (s .latch)
+    s .part ∷ s .kept ∷ lowBit (s .power) ∷ lowBit (s .sck) ∷ lineNumber (s .si) ∷ lineNumber (s .wp) ∷ lowBit (s .latch)
     ∷ holdNumber (s .hold) ∷ stageNumbers (s .stage)
 
 -- "the fresh array is now FF, in .. document 01's examples too" (document 02, Wish 6)

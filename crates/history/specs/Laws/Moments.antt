@@ -19,6 +19,7 @@ use Rattle.chip.specs.RunLaws.{next-length, next-sound}
 use Rattle.pins.specs.SoundLaws.{rest-sound}
 use Rattle.pins.specs.Sound.{sound}
 use Rattle.pins.specs.declared.hold.Hold.the-variants.{High}
+use Rattle.stages.specs.declared.stage.Line.the-variants.{Down, Up}
 use Rattle.stages.specs.declared.stage.Stage.the-variants.{Closed}
 use Rattle.pins.specs.declared.state.State.{State}
 use Rattle.chip.specs.declared.event.Answer.{Answer}
@@ -149,7 +150,7 @@ pub reached-from :
 reached-from part kept array one under fits =
     reached part (fair part one)
     (record {
-      agrees = on (outside false) (unlatched kept array) (unlatched kept array) false false true High Closed (closed false);
+      agrees = on (outside false) (unlatched kept array) (unlatched kept array) false Down Up High Closed (closed false);
       good = rest-sound part kept true one under;
       fits = fits;
     })

@@ -13,6 +13,9 @@ use Rattle.stages.specs.Close.{drops}
 use Rattle.select.specs.Fall.{statusByte}
 use Rattle.select.specs.Rise.{rise}
 use Rattle.select.specs.declared.notes.Note.the-variants.{Latch}
+use Rattle.stages.specs.Wp.{isUp}
+use Rattle.stages.specs.declared.stage.Line.{Line}
+use Rattle.stages.specs.declared.stage.Line.the-variants.{Down, Up}
 use Rattle.stages.specs.declared.stage.Stage.{Stage}
 use Rattle.stages.specs.declared.stage.Stage.the-variants.{Closed, Asleep}
 use Rattle.pins.specs.Levels.{atRest, holdHigh}
@@ -33,11 +36,11 @@ csOf High seen = seen
 csOf LowCsLow seen = false
 csOf LowCsHigh seen = true
 
-abbrev pub wireOf : Bool → Bool → Bool → Hold → Bool → Wire
+abbrev pub wireOf : Bool → Line → Line → Hold → Bool → Wire
 wireOf sck si wp hold seen =
-    record { power = true; cs = csOf hold seen; sck = sck; si = si; hold = holdHigh hold; wp = wp; seen = seen }
+    record { power = true; cs = csOf hold seen; sck = sck; si = isUp si; hold = holdHigh hold; wp = isUp wp; seen = seen }
 
-abbrev pub chipOf : ℕ → World → Bool → Bool → Bool → Hold → Stage → Chip
+abbrev pub chipOf : ℕ → World → Bool → Line → Line → Hold → Stage → Chip
 chipOf part v sck si wp hold stage =
     record {
       state =
@@ -68,7 +71,7 @@ pub data Agrees (part : ℕ) : Wire → Place → World → Chip → Type 0 wher
       (kept : ℕ) (array : List ℕ)
       → Agrees part (rest false) (outside false) (unlatched kept array) (offChip part kept array)
   on :
-      (p : Place) (w v : World) (sck si wp : Bool) (hold : Hold) (stage : Stage) → Selected (figureOf part) w p v stage
+      (p : Place) (w v : World) (sck : Bool) (si wp : Line) (hold : Hold) (stage : Stage) → Selected (figureOf part) w p v stage
       → Agrees part (wireOf sck si wp hold (isOutside p)) p w (chipOf part v sck si wp hold stage)
 
 -- this chip agrees after an event
@@ -101,7 +104,7 @@ module _ (part : ℕ) (fair : Fair (figureOf part)) where
   abbrev Follows : Wire → Place → World → Chip → ℕ → Type 0
   Follows l p w c code = Onward part l p w code (answered c (answerOf (step (figureOf part) (c .array) (c .state) code)))
 
-  module _ (w : World) (si wp : Bool) where
+  module _ (w : World) (si wp : Line) where
     -- it agrees after this event, whatever the levels of SCK and /HOLD and whatever select is open
     abbrev After : ℕ → Type 0
     After code =
@@ -112,7 +115,7 @@ module _ (part : ℕ) (fair : Fair (figureOf part)) where
     unfolding afterOne refusal put act placeAfter base worldAt step live csFall written
     cs-low sck High (outside _) _ _ (closed asleep) =
         rw (select-open (figureOf part) w (closed asleep))
-        (on (inside asleep wp []) w w sck si wp High _ (select-fresh (figureOf part) w asleep wp))
+        (on (inside asleep (isUp wp) []) w w sck si wp High _ (select-fresh (figureOf part) w asleep (isUp wp)))
     cs-low sck High (inside woken fell bs) v stage s =
         rw (select-open (figureOf part) w s) (on (inside woken fell bs) w v sck si wp High stage s)
     cs-low sck LowCsLow p v stage s = on p w v sck si wp LowCsLow stage s
@@ -161,7 +164,7 @@ module _ (part : ℕ) (fair : Fair (figureOf part)) where
     sck-high false High (outside true) _ _ (closed true) = on (outside true) w w true si wp High Asleep (closed true)
     sck-high false High (outside false) _ _ (closed false) = on (outside false) w w true si wp High Closed (closed false)
     sck-high false High (inside woken fell bs) v stage s =
-        on _ w _ true si wp High _ (select-rise (figureOf part) fair w (record { si = si; wp = wp }) s)
+        on _ w _ true si wp High _ (select-rise (figureOf part) fair w (record { si = isUp si; wp = isUp wp }) s)
     sck-high false LowCsLow p v stage s = on p w v true si wp LowCsLow stage s
     sck-high false LowCsHigh p v stage s = on p w v true si wp LowCsHigh stage s
     sck-high true hold p v stage s = on p w v true si wp hold stage s
@@ -195,11 +198,11 @@ module _ (part : ℕ) (fair : Fair (figureOf part)) where
     any-pin code h =
         each After 12 0 code
         (cs-low also cs-high also sck-low also sck-high
-        also (λ sck hold p v stage s. on p w v sck false wp hold stage s)
-        also (λ sck hold p v stage s. on p w v sck true wp hold stage s)
+        also (λ sck hold p v stage s. on p w v sck Down wp hold stage s)
+        also (λ sck hold p v stage s. on p w v sck Up wp hold stage s)
         also hold-low also hold-high
-        also (λ sck hold p v stage s. on p w v sck si false hold stage s)
-        also (λ sck hold p v stage s. on p w v sck si true hold stage s)
+        also (λ sck hold p v stage s. on p w v sck si Down hold stage s)
+        also (λ sck hold p v stage s. on p w v sck si Up hold stage s)
         also (λ sck hold p v stage s. rw (← select-world (figureOf part) w s) (off (v .kept) (v .array)))
         also (λ sck hold p v stage s. on p w v sck si wp hold stage s)
         also tt)
@@ -213,7 +216,7 @@ module _ (part : ℕ) (fair : Fair (figureOf part)) where
   darkness kept array code h = go (eqb code 11) refl
     where
       go : (t : Bool) → eqb code 11 ≡ t → Follows (rest false) (outside false) (unlatched kept array) (offChip part kept array) code
-      go true e = rw (h, e) (on (outside false) (unlatched kept array) (unlatched kept array) false false true High Closed (closed false))
+      go true e = rw (h, e) (on (outside false) (unlatched kept array) (unlatched kept array) false Down Up High Closed (closed false))
       go false e = rw (h, e) (off kept array)
 
   pub follows :
@@ -227,7 +230,7 @@ module _ (part : ℕ) where
   abbrev Refuses : Wire → Chip → ℕ → Type 0
   Refuses l c code = step (figureOf part) (c .array) (c .state) code .refusal ≡ refusal l code
 
-  module _ (p : Place) (v : World) (si wp : Bool) (stage : Stage) where
+  module _ (p : Place) (v : World) (si wp : Line) (stage : Stage) where
     abbrev Alike : Bool → Hold → ℕ → Type 0
     Alike sck hold code = Refuses (wireOf sck si wp hold (isOutside p)) (chipOf part v sck si wp hold stage) code
 
@@ -239,7 +242,7 @@ module _ (part : ℕ) where
     fall-alike sck LowCsHigh = refl
 
   rise-alike :
-      {p : Place} {w v : World} (si wp : Bool) {stage : Stage} (sck : Bool) (hold : Hold) → Selected (figureOf part) w p v stage
+      {p : Place} {w v : World} (si wp : Line) {stage : Stage} (sck : Bool) (hold : Hold) → Selected (figureOf part) w p v stage
       → Alike p v si wp stage sck hold 7
   unfolding refusal step live csStayed
   rise-alike si wp sck High s = refl

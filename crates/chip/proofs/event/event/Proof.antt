@@ -9,7 +9,7 @@ use Rattle.chip.proofs.event.event.Tie as tie
 returns : tie.Need-returns
 returns c =
     let args = c .before .before .before .before .before .before .before .before .before .args in
-    let told = single (args .array .now) (args .state) (args .code) _ (c .before .before .before .before .run .ensures) in
+    let told = single (args .array .now) (args .state) (args .code) _ _ (c .before .before .before .before .run .ensures) in
     (ap paper (c .answer-of .ensures ∙ told .0), told .1)
 
 pub event-spec : {M : Type 1} → statement M

@@ -1,24 +1,28 @@
--- By what the checks give; a code that they let through is below 12.
+-- Nothing is refused of the state and the array, so the code's test decides; a code that passes it is below 12.
 use mathlib.Core.Path.{sym, _∙_}
 use native.Mathlib.Nat.{lt-of-lt-of-le}
 use lib.Dec.{lit≤}
-use borrow.Author.Tests.{ne-eqb}
-use Rattle.chip.specs.EventLaws.{checks-passed}
+use borrow.Author.Tests.{le-leb, lt-leb}
+use Rattle.chip.specs.EventLaws.{tried-known, tried-unknown}
 use borrow.Author.Needs.{needs}
 use Rattle.chip.proofs.run.attempt.Statement.{statement}
 use Rattle.chip.proofs.run.attempt.Tie as tie
 
 cast-step : tie.Need-cast-step
-cast-step c =
-    record { fits = lt-of-lt-of-le (checks-passed _ _ _ (sym (c .before .checks .ensures) ∙ c .if1 .taken) .2) (lit≤ tt) }
+cast-step c = record { fits = lt-of-lt-of-le (c .if1 .left) (lit≤ tt) }
 
 returns : tie.Need-returns
-returns c = simp (c .step .ensures, ← c .before .before .checks .ensures, c .before .if1 .taken)
+returns c =
+    let a = c .before .before .before in
+    c .refuse .ensures
+    ∙ sym (tried-unknown (a .args .f) (a .args .array .now) (a .args .state) (a .args .code) (a .pre .1) (le-leb _ _ (c .before .if1 .taken)))
 
 returns-2 : tie.Need-returns-2
-returns-2 c = simp (c .refuse .ensures, ← c .before .before .checks .ensures, ne-eqb _ _ (c .before .if1 .left))
+returns-2 c =
+    let a = c .before .before .before in
+    c .step .ensures
+    ∙ sym (tried-known (a .args .f) (a .args .array .now) (a .args .state) (a .args .code) (a .pre .1) (lt-leb _ _ (c .before .if1 .left)))
 
 pub attempt-spec : {M : Type 1} → statement M
 attempt-spec =
-    tie.close
-    (tie.spec (λ c κs. search needs) cast-step (λ c κs. search needs) (λ c κs. search needs) returns returns-2)
+    tie.close (tie.spec (λ c κs. search needs) cast-step (λ c κs. search needs) returns returns-2)

@@ -1,63 +1,31 @@
--- Wherever the loop is, the codes that are left lead from there to where all of them lead from the start. The row stays, since
--- the part does.
-use mathlib.Core.Path.{_≡_, refl, _∙_}
-use Prim.Native.Nat.{ℕ, _-_, _≤_, zero-le}
-use native.Mathlib.Nat.{le-antisymm}
-use native.Mathlib.Omega.{arith}
-use lib.ListN.{length, drop}
-use Rattle.parts.specs.Figures.{figureOf}
-use Rattle.chip.specs.List.{course, setOut}
-use Rattle.chip.specs.ListLaws.{row-stays, loop-goes, loop-stops, loop-ends}
+-- Refused by the first checks: nothing is touched. Else the loop may go, and its course is the list's.
+use Rattle.chip.specs.ListLaws.{call-passed, call-runs, call-stops}
 use borrow.Author.Needs.{needs}
 use Rattle.chip.proofs.run.run.Statement.{statement}
 use Rattle.chip.proofs.run.run.Tie as tie
 
-abbrev Inv-loop : tie.InvT-loop
-Inv-loop array₀ codes levels₀ f state₀ note₀ i₀ array levels state note i =
-    (i ≤ length codes) × (length array ≡ length array₀) × (length levels ≡ length levels₀)
-    × (f ≡ figureOf (state .part))
-    × (course (record { refusal = 0; count = i; note = note; state = state; array = array; levels = levels }) (drop i codes)
-    ≡ course (setOut 0 state₀ array₀ levels₀) codes)
+list-refusal-requires : tie.Need-list-refusal-requires
+list-refusal-requires c κs = c .figure-of .ensures
 
-abbrev μ-loop : tie.MeasureT-loop
-μ-loop array₀ codes levels₀ f state₀ note₀ i₀ array levels state note i = length codes - i
+go-requires : tie.Need-go-requires
+go-requires c κs =
+    let asked = c .before .before .before in
+    let a = asked .before .before .before .before .before .before .args in
+    let passed = call-passed (a .array .now) (a .state) (a .codes .now) (a .levels .now) (asked .list-refusal .ensures) (c .before .before .if1 .taken) in
+    (asked .before .figure-of .ensures, passed)
 
-loop-holds : tie.Need-loop-holds Inv-loop μ-loop
-loop-holds c = (zero-le, refl, refl, c .figure-of .ensures, refl)
-
-returns : tie.Need-returns Inv-loop μ-loop
+returns : tie.Need-returns
 returns c =
-    let at = c .before .before .before .before .before .loop in
-    let more = c .before .before .before .before .loop-test .taken in
-    loop-stops (at .array) (at .state) (at .levels) _ (at .note) (at .i) more _ _ (at .inv .3) (c .before .attempt .ensures) (c .if1 .taken)
-    ∙ at .inv .4
+    let ran = c .before .before .before .before in
+    let checked = ran .before .before .before in
+    call-runs _ _ _ _ (checked .before .list-refusal .ensures) (checked .if1 .taken) (ran .go .ensures)
 
-loop-again : tie.Need-loop-again Inv-loop μ-loop
-loop-again c =
-    let at = c .before .before .before .before .before .before .before .before .before .before .before .before .loop in
-    let more = c .before .before .before .before .before .before .before .before .before .before .before .loop-test .taken in
-    let came = c .before .before .before .before .before .before .before .before .attempt .ensures in
-    let codes = c .before .before .before .before .before .before .before .before .before .before .before .before .before .before .before .before .before .before .args .codes .now in
-    let fine = c .before .before .before .before .before .before .before .if1 .left in (
-      omega arith,
-      search needs,
-      search needs,
-      row-stays (at .array) (at .state) (at .levels) codes (at .note) (at .i) more _ _ (at .inv .3) came,
-      loop-goes (at .array) (at .state) (at .levels) _ (at .note) (at .i) more _ _ (at .inv .3) came _ _ _ fine
-          (c .before .before .before .before .store .ensures) (c .before .so .ensures) (c .level-number .ensures)
-          ∙ at .inv .4,
-    )
-
-returns-2 : tie.Need-returns-2 Inv-loop μ-loop
-returns-2 c =
-    let at = c .before .loop in
-    loop-ends _ _ (at .i) (le-antisymm (at .inv .0) (c .loop-test .left)) ∙ at .inv .4
+returns-2 : tie.Need-returns-2
+returns-2 c = call-stops _ _ _ _ (c .before .list-refusal .ensures) (c .if1 .left)
 
 pub run-spec : {M : Type 1} → statement M
 run-spec =
     tie.close
     (tie.spec
-    Inv-loop μ-loop (λ c. search needs) (λ c κs. search needs) loop-holds (λ c. search needs) (λ c. search needs)
-    (λ c. search needs) (λ c κs. search needs) (λ c. search needs) (λ c. search needs) returns (λ c κs. search needs)
-    (λ c κs. search needs) (λ c κs. search needs) (λ c. search needs) (λ c. search needs) loop-again
-    (λ c. search needs) (λ c. search needs) returns-2)
+    (λ c. search needs) (λ c κs. search needs) list-refusal-requires go-requires (λ c. search needs)
+    (λ c. search needs) returns returns-2)

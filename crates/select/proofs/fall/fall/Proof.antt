@@ -49,7 +49,7 @@ returns-10 : tie.Need-returns-10
 unfolding fall
 returns-10 c =
     let a = c .before .before .args in
-    arm enum (0 ∷ 1 ∷ 2 ∷ 3 ∷ 4 ∷ 8 ∷ 9 ∷ 10 ∷ 11 ∷ []) (a .stage) (c .match .keys5)
+    arm enum (0 ∷ 1 ∷ 2 ∷ 3 ∷ 4 ∷ 5 ∷ 6 ∷ 8 ∷ 9 ∷ []) (a .stage) (c .match .keys5)
     (λ s. s ≡ fall (a .f) (a .array .now) (a .status) s)
     (λ v. refl) (λ v. refl) (λ v. refl) (λ v. refl) (λ v. refl) (λ v. refl) (λ v. refl) (λ v. refl) (λ v. refl)
 

@@ -23,7 +23,7 @@ returns-4 c = simp (c .enum-told4 .given .1, c .before .before .before .stage .g
 
 returns-6 : tie.Need-returns-6
 returns-6 c =
-    arm enum (0 ∷ 1 ∷ 2 ∷ 3 ∷ 4 ∷ 5 ∷ 6 ∷ 7 ∷ 9 ∷ 11 ∷ 12 ∷ []) (c .before .args .stage) (c .match .keys3) (λ s. Quiet ≡ endOf s)
+    arm enum (0 ∷ 1 ∷ 3 ∷ 4 ∷ 5 ∷ 6 ∷ 7 ∷ 8 ∷ 10 ∷ 11 ∷ 12 ∷ []) (c .before .args .stage) (c .match .keys3) (λ s. Quiet ≡ endOf s)
     (λ v. refl) (λ v. refl) (λ v. refl) (λ v. refl) (λ v. refl) (λ v. refl) (λ v. refl) (λ v. refl) (λ v. refl) (λ v. refl) (λ v. refl)
 
 pub end-of-spec : {M : Type 1} → statement M

@@ -7,16 +7,18 @@ use Rattle.bench.proofs.stand.Stand.clocked.Tie as tie
 returns : tie.Need-returns
 unfolding clockedBy shownBy
 returns c =
-    let test = c .before .before .before in
+    let test = c .before .before .before .before in
     let so = c .before .before .so .ensures in
+    let si = c .before .before .before .is-up .ensures in
     let seen = test .before .sees-rise .ensures in
-    (simp (c .rise .ensures .0, so, ← seen, test .if1 .taken), simp (c .rise .ensures .1, so, ← seen, test .if1 .taken))
+    (simp (c .rise .ensures .0, so, si, ← seen, test .if1 .taken), simp (c .rise .ensures .1, so, ← seen, test .if1 .taken))
 
 pub clocked-spec : {M : Type 1} → statement M
 unfolding clockedBy shownBy
 clocked-spec =
     tie.close
     (tie.spec
+    (λ c κs. search needs)
     (λ c κs. search needs)
     (λ c κs. search needs)
     (λ c κs. search needs)
