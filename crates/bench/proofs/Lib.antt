@@ -1,5 +1,4 @@
-pub mod Pages
-pub mod Desks
-pub mod Events
+pub mod Leads
 pub mod Items
+pub mod Tells
 pub mod Runs

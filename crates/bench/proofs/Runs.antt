@@ -3,9 +3,10 @@
 use mathlib.Core.Path.{_≡_, refl, sym, ap, _∙_}
 use mathlib.Core.Bool.{false}
 use mathlib.Core.List.{List, [], _∷_}
-use Prim.Native.Nat.{ℕ, zero, suc, _≤_}
+use Prim.Native.Nat.{ℕ, zero, suc, _-_, _<_, _≤_}
 use native.Mathlib.Nat.{le-of-suc-le-suc, not-suc-le-zero}
-use borrow.Author.Tests.{eq-eqb, ne-eqb}
+use native.Mathlib.Omega.{arith}
+use borrow.Author.Tests.{eq-eqb, ne-eqb, lt-ltb, le-ltb}
 use lib.Dec.{eqb}
 use lib.ListN.{take, replicate}
 use Rattle.trace.specs.Answers.{numberRead, ended, refusedAt, numberOf, readTold}
@@ -21,22 +22,35 @@ use Rattle.pins.specs.Levels.{atRest}
 use Rattle.pins.specs.declared.state.State.{State}
 use Rattle.chip.specs.Power.{powerUp, fresh, filled}
 use Rattle.chip.specs.declared.power.Powered.{Powered}
-use Rattle.trace.specs.Items.{itemEvents}
+use Rattle.trace.specs.Figures.{lastByte}
+use Rattle.trace.specs.Items.{shortEvents, itemEvents}
+use Rattle.pulses.specs.Pulse.{pulsed}
 use Rattle.report.specs.Lines.{partLine}
 use Rattle.report.specs.Record.{mostShown}
-use Rattle.bench.specs.Bench.{Bench, Desk, deskOf, onPage, benchOf}
+use Rattle.turns.specs.Bench.{Bench, Desk, afterEvents, deskOf, onPage, benchOf}
 use Rattle.bench.specs.Head.{headOf}
-use Rattle.bench.specs.Page.{Page, pageOf, printed}
+use Rattle.turns.specs.Page.{Page, pageOf, printed}
 use Rattle.bench.specs.Report.{lastText, wholeText, report, reported}
 use Rattle.bench.specs.Run.{itemsFrom, afterItem, afterItems, ranFrom, firstText, powered, started, ran, replayed}
-use Rattle.bench.specs.Stand.{noEvent}
+use Rattle.turns.specs.Stand.{noEvent}
 use Rattle.bench.specs.declared.head.Head.{Head}
-use Rattle.bench.specs.declared.stand.Stand.{Stand}
-use Rattle.bench.specs.declared.turn.Turn.{Turn}
-use Rattle.bench.proofs.Desks.{desk-is, carry, tells-ran}
-use Rattle.bench.proofs.Events.{events-stay}
+use Rattle.turns.specs.declared.stand.Stand.{Stand}
+use Rattle.turns.specs.declared.turn.Turn.{Turn}
+use Rattle.turns.specs.DeskLaws.{desk-is, carry}
+use Rattle.bench.proofs.Tells.{tells-ran}
+use Rattle.turns.specs.EventLaws.{events-stay}
 use Rattle.bench.proofs.Items.{items-on}
-use Rattle.bench.proofs.Pages.{print-then}
+use Rattle.turns.specs.PrintLaws.{print-then}
+
+-- an item from 268 up is a run of pulses, any other is its events
+pub item-run : (n p : ℕ) (b : Bench) (q : Page) (d : Desk) → p ≡ n - lastByte → 0 < p → d ≡ onPage q (pulsed p b) → d ≡ onPage q (afterItem b n)
+unfolding pulsed afterItem itemEvents
+item-run n p b q d is some e = e ∙ rw (lt-ltb lastByte n (omega arith), is)
+
+pub item-short : (n p : ℕ) (b : Bench) (q : Page) (d : Desk) → p ≡ n - lastByte → p ≤ 0 → d ≡ onPage q (afterEvents b (shortEvents n))
+    → d ≡ onPage q (afterItem b n)
+unfolding afterItem itemEvents
+item-short n p b q d is none e = e ∙ rw (le-ltb lastByte n (omega arith))
 
 items-stay : (b : Bench) (ns : List ℕ) → (b .refusal ≡ 0 → ⊥) → afterItems b ns ≡ b
 unfolding afterItem

@@ -24,11 +24,11 @@ use Rattle.trace.specs.Items.{itemEvents, clocked}
 use Rattle.report.specs.Lines.{codeText, shownText, partLine, countsText, selectLine, endLine}
 use Rattle.report.specs.Record.{counted, codeAfter, sampled, risen, shownAfter, noted}
 use Rattle.report.specs.Text.{ascii, capitals, hex, decimal}
-use Rattle.bench.specs.Bench.{afterEvent}
+use Rattle.turns.specs.Bench.{afterEvent}
 use Rattle.bench.specs.Head.{leading, headOf}
 use Rattle.bench.specs.Report.{report}
 use Rattle.bench.specs.Run.{afterItem, itemsFrom, ranFrom, started, ran, replayed}
-use Rattle.bench.specs.Stand.{closes, clockedBy, shownBy, after}
+use Rattle.turns.specs.Stand.{closes, clockedBy, shownBy, after}
 
 pub record Example : Type 0 where
   pub trace : List ℕ
@@ -83,6 +83,31 @@ traces =
           ++ ascii "sel 1 so FFFF op 0B clocks 32 stored 0\n"
           ++ ascii "end kept 00 latch 0 refused 0\n";
     }
+    -- "An item from 268 up now means the number less 267 pulses of SCK, up then down, SI untouched." (document 02, Wish 7): with SI
+    -- high, 268 and 274 are one and seven of them, and an op-code FF. In a select that opens with SCK high the "up" moves
+    -- nothing, so that one is no clock; it leaves SCK low, and the next one is
+    ∷ record {
+      trace = 0x01 ∷ 0x00 ∷ 0x05 ∷ 0x00 ∷ 0x8C ∷ 0x02 ∷ 0x92 ∷ 0x02 ∷ 0x01 ∷ 0x03 ∷ 0x00 ∷ 0x8C ∷ 0x02 ∷ 0x8C ∷ 0x02 ∷ [];
+      prints =
+          ascii "part 1 bytes 512 kept 00\n"
+          ++ ascii "sel 1 so - op FF clocks 8 stored 0\n"
+          ++ ascii "sel 2 so - op -- clocks 1 stored 0\n"
+          ++ ascii "end kept 00 latch 0 refused 0\n";
+    }
+    -- 267 is a data byte, FF; then 17 pulses, by a number of two bytes
+    ∷ record {
+      trace = 0x01 ∷ 0x00 ∷ 0x00 ∷ 0x8B ∷ 0x02 ∷ 0x9C ∷ 0x02 ∷ [];
+      prints =
+          ascii "part 1 bytes 512 kept 00\n"
+          ++ ascii "sel 1 so - op FF clocks 25 stored 0\n"
+          ++ ascii "end kept 00 latch 0 refused 0\n";
+    }
+    -- "9 is given .. by replay for a leading number above 267, as it is read": before the second number, which is cut off, and
+    -- before 1; "8 now speaks of over four bytes"
+    ∷ record { trace = 0x8C ∷ 0x02 ∷ 0x80 ∷ []; prints = ascii "end kept 00 latch 0 refused 9\n" }
+    ∷ record { trace = 0x05 ∷ 0x8C ∷ 0x02 ∷ []; prints = ascii "end kept 00 latch 0 refused 9\n" }
+    ∷ record { trace = 0x01 ∷ 0xFF ∷ 0xFF ∷ 0xFF ∷ 0x7F ∷ []; prints = ascii "end kept 00 latch 0 refused 9\n" }
+    ∷ record { trace = 0x01 ∷ 0x80 ∷ 0x80 ∷ 0x80 ∷ 0x80 ∷ 0x01 ∷ []; prints = ascii "end kept 00 latch 0 refused 8\n" }
     -- WREN and a number that is cut off: 8, and the latch is set
     ∷ record {
       trace = 0x01 ∷ 0x00 ∷ 0x00 ∷ 0x12 ∷ 0x01 ∷ 0x80 ∷ [];

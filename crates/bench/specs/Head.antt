@@ -2,15 +2,21 @@
 use Prim.Native.Nat.{ℕ}
 use mathlib.Core.Bool.{cond}
 use mathlib.Core.List.{List}
-use lib.Dec.{eqb}
+use lib.Dec.{eqb, ltb}
 use Rattle.trace.specs.Answers.{Told, Value, num, end}
+use Rattle.trace.specs.Figures.{lastByte}
 use Rattle.trace.specs.Number.{reading}
 use Rattle.bench.specs.declared.head.Lead.{Lead}
 use Rattle.bench.specs.declared.head.Head.{Head}
 
+-- "The first two numbers of a trace stay below 268." "9 is given .. by replay for a leading number above 267, as it is read"
+abbrev pub led : ℕ → ℕ → ℕ → Lead
+led row n place =
+    cond (ltb lastByte n) (record { refusal = 9; value = 0; next = place }) (record { refusal = row; value = n; next = place })
+
 -- ""end" in place of either is refusal 8"
 abbrev pub valued : ℕ → Value → ℕ → Lead
-valued row (num n) place = record { refusal = row; value = n; next = place }
+valued row (num n) place = led row n place
 valued row end place = record { refusal = 8; value = 0; next = place }
 
 abbrev pub leadOf : Told → Lead

@@ -1,8 +1,4 @@
-pub mod Page
-pub mod PageLaws
 pub mod Head
-pub mod Stand
-pub mod Bench
 pub mod Run
 pub mod Report
 pub mod Outcomes

@@ -4,7 +4,7 @@ use Prim.Native.Nat.{ℕ}
 use mathlib.Core.Path.{_≡_, ap}
 use mathlib.Core.List.{List}
 use Rattle.laws.specs.TestLaws.{sole}
-use Rattle.bench.specs.Page.{Page, pageOf}
+use Rattle.turns.specs.Page.{Page, pageOf}
 use Rattle.bench.specs.Report.{reported}
 
 pub report-one : (s out : List ℕ) (a b : ℕ) (xs ys : List ℕ)

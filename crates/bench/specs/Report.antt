@@ -6,10 +6,10 @@ use lib.ListN.{replicate}
 use Rattle.pins.specs.Watch.{isOpen}
 use Rattle.report.specs.Lines.{endLine}
 use Rattle.report.specs.Record.{mostShown}
-use Rattle.bench.specs.Bench.{Bench, selectText}
-use Rattle.bench.specs.Page.{Page, pageOf, printed}
+use Rattle.turns.specs.Bench.{Bench, selectText}
+use Rattle.turns.specs.Page.{Page, pageOf, printed}
 use Rattle.bench.specs.Run.{replayed}
-use Rattle.bench.specs.declared.stand.Stand.{Stand}
+use Rattle.turns.specs.declared.stand.Stand.{Stand}
 
 -- "also one left open by the end, a refusal"
 abbrev pub openText : Stand → List ℕ → List ℕ

@@ -13,17 +13,12 @@ use Rattle.chip.specs.Power.{powerUp, fresh, filled}
 use Rattle.chip.specs.declared.power.Powered.{Powered}
 use Rattle.trace.specs.Items.{itemEvents}
 use Rattle.report.specs.Lines.{partLine}
-use Rattle.bench.specs.Bench.{Bench, runsOn, stopped, afterEvent}
+use Rattle.turns.specs.Bench.{Bench, runsOn, stopped, afterEvents}
 use Rattle.bench.specs.Head.{headOf}
-use Rattle.bench.specs.Stand.{noEvent}
+use Rattle.turns.specs.Stand.{noEvent}
 use Rattle.bench.specs.declared.head.Head.{Head}
 
--- It "stops at the first refusal": events in their order, each where none before it was refused
-abbrev pub afterEvents : Bench → List ℕ → Bench
-afterEvents b [] = b
-afterEvents b (code ∷ codes) = afterEvents (cond (runsOn b) (afterEvent b code) b) codes
-
--- "0 to 11 is an event; 12 to 267 is a data byte .. clocked in": the item's events
+-- "0 to 11 is an event; 12 to 267 is a data byte .. clocked in"; "from 268 up .. pulses": the item's events
 unfoldable pub afterItem : Bench → ℕ → Bench
 afterItem b item = afterEvents b (itemEvents item)
 

@@ -3,6 +3,7 @@ ghost use mathlib.Core.Path.{_≡_};
 ghost use Rattle.bench.specs.Head.{leading, headOf};
 use trace::answer::Read;
 use trace::answer::number_of;
+use trace::items::LAST_BYTE;
 use trace::reader::number_at;
 
 // A leading number with the place after it, or a refusal.
@@ -20,15 +21,23 @@ pub struct Head {
     pub items: usize,
 }
 
-// The number at `at`; "end" in place of it is refusal 8.
+// The number at `at`; "end" in place of it is refusal 8, and a number above 267 is refusal 9.
 fn lead_at(trace: &[u8], at: usize) -> Lead
     ensures { λ r. ⌜ r ≡ leading (now (trace .entry)) at ⌝ }
 {
     match number_at(trace, at) {
-        Read::Number { value, next } => Lead {
-            refusal: 0,
-            value,
-            next,
+        Read::Number { value, next } => if LAST_BYTE < value {
+            Lead {
+                refusal: 9,
+                value: 0,
+                next,
+            }
+        } else {
+            Lead {
+                refusal: 0,
+                value,
+                next,
+            }
         },
         Read::End { at } => Lead {
             refusal: 8,

@@ -1,29 +1,32 @@
 // The run of a trace: power-up, then item by item.
 ghost use mathlib.Core.Path.{_≡_};
 ghost use mathlib.Core.List.{[]};
-ghost use Rattle.bench.specs.Bench.{benchOf, deskOf, onPage};
-ghost use Rattle.bench.specs.Page.{pageOf, printed};
+ghost use Rattle.turns.specs.Bench.{benchOf, deskOf, onPage, afterEvents};
+ghost use Rattle.turns.specs.Page.{pageOf, printed};
+ghost use Rattle.trace.specs.Items.{shortEvents};
 ghost use Rattle.bench.specs.Run.{afterItem, ranFrom, started, ran, replayed};
 use crate::head::Head;
 use crate::head::head_of;
-use crate::page::print_part;
-use crate::stand::Stand;
-use crate::turn::Turn;
-use crate::turn::take_event;
 use chip::power::fill;
 use chip::power::power_up;
 use parts::figures::LARGEST;
 use parts::figures::figure_of;
 use pins::state::State;
+use pulses::run::take_pulses;
 use report::record::SHOWN;
 use trace::answer::Read;
 use trace::answer::number_of;
 use trace::items::event_of;
 use trace::items::events_of;
+use trace::items::pulses_of;
 use trace::reader::number_at;
+use turns::page::print_part;
+use turns::stand::Stand;
+use turns::turn::Turn;
+use turns::turn::take_event;
 
-// One item: its events, up to the first that is refused.
-fn take_item(
+// An event or a data byte: its events, up to the first that is refused.
+fn take_short(
     turn: Turn,
     array: &mut [u8],
     shown: &mut [u8; SHOWN],
@@ -31,7 +34,8 @@ fn take_item(
     item: u64,
 ) -> Turn
     ensures { λ r. ⌜ deskOf r (now (array .exit)) (now (shown .exit)) (now (out .exit))
-        ≡ onPage (pageOf (now (out .entry)) (turn .at)) (afterItem (benchOf turn (now (array .entry)) (now (shown .entry))) item) ⌝ }
+        ≡ onPage (pageOf (now (out .entry)) (turn .at))
+        (afterEvents (benchOf turn (now (array .entry)) (now (shown .entry))) (shortEvents item)) ⌝ }
 {
     let events = events_of(item);
     let mut turn = turn;
@@ -44,6 +48,24 @@ fn take_item(
         k += 1;
     }
     turn
+}
+
+// One item. A run of pulses has a way of its own.
+fn take_item(
+    turn: Turn,
+    array: &mut [u8],
+    shown: &mut [u8; SHOWN],
+    out: &mut [u8],
+    item: u64,
+) -> Turn
+    ensures { λ r. ⌜ deskOf r (now (array .exit)) (now (shown .exit)) (now (out .exit))
+        ≡ onPage (pageOf (now (out .entry)) (turn .at)) (afterItem (benchOf turn (now (array .entry)) (now (shown .entry))) item) ⌝ }
+{
+    let pulses = pulses_of(item);
+    if 0 < pulses {
+        return take_pulses(turn, array, shown, out, pulses);
+    }
+    take_short(turn, array, shown, out, item)
 }
 
 // The items from `at` on, up to the end or the first refusal.

@@ -1,14 +1,14 @@
 // The report of a trace, as text in a lent slice.
 ghost use mathlib.Core.Path.{_≡_};
-ghost use Rattle.bench.specs.Page.{pageOf, printed};
+ghost use Rattle.turns.specs.Page.{pageOf, printed};
 ghost use Rattle.bench.specs.Report.{openText, lastText, reported};
-use crate::page::print_end;
-use crate::page::print_select;
 use crate::run::run_whole;
-use crate::stand::Stand;
-use crate::turn::Turn;
 use pins::watch::is_open;
 use report::record::SHOWN;
+use turns::page::print_end;
+use turns::page::print_select;
+use turns::stand::Stand;
+use turns::turn::Turn;
 
 // The line of a select left open.
 fn print_open(out: &mut [u8], at: usize, stand: Stand, shown: &[u8; SHOWN]) -> usize

@@ -10,7 +10,7 @@ use lib.Dec.{eqb}
 use lib.ListN.{length, getD, List·getD-eq-default}
 use mathlib.Core.Bool.{cond}
 use Rattle.trace.specs.Figures.{firstByte, byteEvents}
-use Rattle.trace.specs.Items.{itemEvents, pulses, clocked}
+use Rattle.trace.specs.Items.{shortEvents, pulses, clocked}
 use Rattle.laws.specs.Bits.{bitAt}
 
 -- the event at a place of a pulse, and the bit that is due
@@ -54,23 +54,21 @@ module _ (byte k : ℕ) (h : k < byteEvents) where
   down-beat n m = sym (pulse-at 8 byte k h ∙ rw (ne-eqb (k % 3) 0 n, ne-eqb (k % 3) 1 m))
 
 -- event k of an item that has m
-module _ (n k m : ℕ) (size : m ≡ length (itemEvents n)) where
-  pub past : m ≤ k → 0 ≡ getD (itemEvents n) k 0
-  past h = sym (List·getD-eq-default (itemEvents n) 0 (rw size at h))
+module _ (n k m : ℕ) (size : m ≡ length (shortEvents n)) where
+  pub past : m ≤ k → 0 ≡ getD (shortEvents n) k 0
+  past h = sym (List·getD-eq-default (shortEvents n) 0 (rw size at h))
 
   -- an event has itself alone
-  pub sole : n < firstByte → k < m → n ≡ getD (itemEvents n) k 0
-  unfolding itemEvents
+  pub sole : n < firstByte → k < m → n ≡ getD (shortEvents n) k 0
   sole h l =
       let one : k < 1 = simp (lt-ltb n firstByte h) at (rw size at l) in
       let none : k ≡ 0 = omega arith in
       rw (lt-ltb n firstByte h, none)
 
   pub within : firstByte ≤ n → k < m → k < byteEvents
-  unfolding itemEvents clocked
+  unfolding clocked
   within h l = simp (le-ltb n firstByte h) at (rw size at l)
 
 -- event k of a data byte
-pub of-byte : (n k r : ℕ) → firstByte ≤ n → r ≡ getD (clocked (n - firstByte)) k 0 → r ≡ getD (itemEvents n) k 0
-unfolding itemEvents
+pub of-byte : (n k r : ℕ) → firstByte ≤ n → r ≡ getD (clocked (n - firstByte)) k 0 → r ≡ getD (shortEvents n) k 0
 of-byte n k r h is = rw (le-ltb n firstByte h) is

@@ -1,7 +1,7 @@
 -- How a number is spelt in bytes. Assumes nothing.
 --
 -- "A trace is numbers in groups of seven bits, low group first, the top bit set on every byte but a number's last.
---  At most two bytes, shortest form only, value at most 267."
+--  .. shortest form only". "Numbers go up to 268,435,455, in at most four bytes" (document 02, Wish 7).
 use Prim.Native.Nat.{ℕ, zero, suc, _+_, _*_, _/_, _%_}
 use mathlib.Core.Bool.{Bool, true, cond, _&&_, _||_}
 use mathlib.Core.List.{List, [], _∷_}
@@ -29,7 +29,7 @@ abbrev pub cutOff : List ℕ → Bool
 cutOff [] = true
 cutOff (b ∷ bs) = goesOn b && cutOff bs
 
--- "over two bytes", for a number of bytes that stands in Figures
+-- "over four bytes", for a number of bytes that stands in Figures
 abbrev pub tooMany : ℕ → List ℕ → Bool
 tooMany most bs = ltb most (length bs)
 
@@ -42,7 +42,7 @@ last (b ∷ c ∷ bs) = last (c ∷ bs)
 abbrev pub notShortest : List ℕ → Bool
 notShortest bs = ltb 1 (length bs) && eqb (last bs) 0
 
--- 8 "trace number cut off, over two bytes, or not shortest"
+-- 8 "trace number cut off, over two bytes, or not shortest"; "8 now speaks of over four bytes"
 abbrev pub misshapen : ℕ → List ℕ → Bool
 misshapen most bs = cutOff bs || (tooMany most bs || notShortest bs)
 

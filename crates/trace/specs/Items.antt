@@ -4,7 +4,7 @@ use mathlib.Core.Bool.{cond}
 use mathlib.Core.List.{List, [], _∷_, _++_}
 use lib.Dec.{ltb}
 use Rattle.laws.specs.Bits.{bitAt}
-use Rattle.trace.specs.Figures.{firstByte}
+use Rattle.trace.specs.Figures.{firstByte, lastByte}
 
 -- "SI, SCK up, SCK down": event 4 or 5 by the bit, then 3, then 2
 abbrev pub pulse : ℕ → List ℕ
@@ -20,5 +20,14 @@ unfoldable pub clocked : ℕ → List ℕ
 clocked byte = pulses 8 byte
 
 -- "0 to 11 is an event; 12 to 267 is a data byte, the number less 12"
+abbrev pub shortEvents : ℕ → List ℕ
+shortEvents n = cond (ltb n firstByte) (n ∷ []) (clocked (n - firstByte))
+
+-- so many "pulses of SCK, up then down, SI untouched" (document 02, Wish 7)
+abbrev pub runEvents : ℕ → List ℕ
+runEvents zero = []
+runEvents (suc n) = 3 ∷ 2 ∷ runEvents n
+
+-- "An item from 268 up now means the number less 267 pulses of SCK"
 unfoldable pub itemEvents : ℕ → List ℕ
-itemEvents n = cond (ltb n firstByte) (n ∷ []) (clocked (n - firstByte))
+itemEvents n = cond (ltb lastByte n) (runEvents (n - lastByte)) (shortEvents n)

@@ -2,20 +2,23 @@
 --     reads-back, write-reads-back     a number that is written reads back as written, with the place after it, whatever stands around it
 --     read-form, one-form              each number has one form only: two byte strings that read as one number are the same bytes
 --     form-fits, form-shortest         the form has at most `groups` bytes, and no bytes of the same value are fewer
+--     no-read-gives-9                  four bytes hold no number above the largest, so that 9 is left to a write
 --     forward, less-left               reading moves forward, and stays in the slice; so a loop over it ends
 -- Assumes nothing.
-use mathlib.Core.Path.{_≡_, sym, ap, _∙_, subst}
+use mathlib.Core.Path.{_≡_, refl, sym, ap, _∙_, subst}
+use mathlib.Core.Bool.{Bool, true, false, cond, _||_}
 use mathlib.Core.Logic.{⊎-elim}
 use mathlib.Core.List.{List, [], _∷_, _++_, append-assoc}
 use Prim.Native.Nat.{ℕ, suc, _+_, _-_, _^_, _≤_, _<_}
-use native.Mathlib.Nat.{pow-succ', eq-or-lt-of-le}
+use native.Mathlib.Nat.{pow-succ', pow-le-pow-right, eq-or-lt-of-le}
 use native.Mathlib.Omega.{arith}
-use borrow.Author.Tests.{le-ltb, lt-ltb}
+use borrow.Author.Tests.{le-ltb, lt-ltb, ltb-false}
+use lib.Dec.{T, eqb, ltb}
 use lib.ListN.{length, getD, take, drop, length-append, length-drop}
 use lib.Seq.{drop-append-seam, drop-at, length-take-le, take-add, getD-drop, slice}
 use Rattle.trace.specs.Figures.{groups, largest}
 use Rattle.trace.specs.Answers.{Told, numberRead, ended, placed, refusedAt, readTold}
-use Rattle.trace.specs.Form.{bytes, value, form}
+use Rattle.trace.specs.Form.{bytes, value, cutOff, tooMany, notShortest, misshapen, form}
 use Rattle.trace.specs.Number.{reading, writing, over, sliceWritten}
 use Rattle.trace.specs.Promises.{ReadPromise}
 use Rattle.trace.specs.declared.answer.Read.{Read}
@@ -31,13 +34,38 @@ use Rattle.trace.specs.WriteLaws.{at-placing}
 form-of : (n : ℕ) → n ≤ largest → Spells (form n) n groups
 form-of n h = form-spells (groups - 1) n (omega arith)
 
--- "At most two bytes"
+-- "in at most four bytes"
 pub form-fits : (n : ℕ) → n ≤ largest → length (form n) ≤ groups
 form-fits n h = few (form-of n h)
 
 value-small : (bs : List ℕ) → value bs < 128 ^ length bs
 value-small [] = omega arith
 value-small (b ∷ bs) = let h = value-small bs in omega (arith, pow-succ' 128 (length bs))
+
+not-above : (bs : List ℕ) → misshapen groups bs ≡ false → ltb largest (value bs) ≡ false
+not-above bs h =
+    let short : length bs ≤ groups = ltb-false groups (length bs) (second (cutOff bs) (tooMany groups bs) (notShortest bs) h) in
+    le-ltb largest (value bs) (omega (arith, value-small bs, pow-le-pow-right {n = 128} (omega arith) short))
+  where
+    second : (a b c : Bool) → (a || (b || c)) ≡ false → b ≡ false
+    second true b c e = cc
+    second false true c e = cc
+    second false false c e = refl
+
+-- "8 now speaks of over four bytes; 9 is given above 268,435,455" (document 02, Wish 7)
+pub no-read-gives-9 : (s : List ℕ) (at : ℕ) → reading s at .refusal ≡ 9 → ⊥
+unfolding reading
+no-read-gives-9 s at =
+    let bs = bytes (drop at s) in
+    go (ltb (length s) at) (eqb at (length s)) (misshapen groups bs) (ltb largest (value bs)) (value bs) (at + length bs) (not-above bs)
+  where
+    go : (beyond end ill above : Bool) (n next : ℕ) → (ill ≡ false → above ≡ false)
+        → cond beyond (refusedAt 10 at) (cond end (ended at) (cond ill (refusedAt 8 at) (cond above (refusedAt 9 at) (numberRead n next)))) .refusal ≡ 9 → ⊥
+    go true end ill above n next never e = omega (arith, e)
+    go false true ill above n next never e = omega (arith, e)
+    go false false true above n next never e = omega (arith, e)
+    go false false false true n next never e = subst T (never refl) tt
+    go false false false false n next never e = omega (arith, e)
 
 -- "shortest form"
 pub form-shortest : (b : ℕ) (bs : List ℕ) → length (form (value (b ∷ bs))) ≤ length (b ∷ bs)

@@ -11,9 +11,9 @@ ghost use Rattle.trace.specs.Promises.{ReadPromise, WritePromise};
 
 // The figures of the format: the largest value, and the most groups of seven bits that a number has.
 // `specs/Figures.antt` has them for the definitions.
-pub const LARGEST: u64 = 267;
+pub const LARGEST: u64 = 268_435_455;
 
-pub const GROUPS: usize = 2;
+pub const GROUPS: usize = 4;
 
 // The number at a place, before its size is judged.
 enum Shape {

@@ -1,5 +1,5 @@
 -- What is put is no longer than the slice.
-use Rattle.bench.proofs.Pages.{print-fits}
+use Rattle.turns.specs.PrintLaws.{print-fits}
 use borrow.Author.Needs.{needs}
 use Rattle.bench.proofs.replay.write_report.Statement.{statement}
 use Rattle.bench.proofs.replay.write_report.Tie as tie

@@ -4,8 +4,8 @@ use mathlib.Core.Path.{_≡_, _∙_}
 use Prim.Native.Nat.{_-_}
 use lib.ListN.{length}
 use Rattle.trace.specs.NumberLaws.{less-left}
-use Rattle.bench.specs.Bench.{benchOf, onPage}
-use Rattle.bench.specs.Page.{pageOf}
+use Rattle.turns.specs.Bench.{benchOf, onPage}
+use Rattle.turns.specs.Page.{pageOf}
 use Rattle.bench.specs.Run.{ranFrom}
 use Rattle.bench.proofs.Runs.{ran-stays, ran-number, ran-end, ran-refused}
 use borrow.Author.Needs.{needs}

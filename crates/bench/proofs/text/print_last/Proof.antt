@@ -1,5 +1,5 @@
 -- The line of an open select, then the last line, is the two as one text.
-use Rattle.bench.proofs.Pages.{print-then}
+use Rattle.turns.specs.PrintLaws.{print-then}
 use borrow.Author.Needs.{needs}
 use Rattle.bench.proofs.text.print_last.Statement.{statement}
 use Rattle.bench.proofs.text.print_last.Tie as tie

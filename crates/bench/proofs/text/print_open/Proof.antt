@@ -1,5 +1,5 @@
 -- A select that is open has its line; else nothing is printed.
-use Rattle.bench.proofs.Pages.{print-if, print-not}
+use Rattle.turns.specs.PrintLaws.{print-if, print-not}
 use borrow.Author.Needs.{needs}
 use Rattle.bench.proofs.text.print_open.Statement.{statement}
 use Rattle.bench.proofs.text.print_open.Tie as tie

@@ -1,0 +1,11 @@
+pub mod Pulse
+pub mod Sums
+pub mod PulseLaws
+pub mod RunLaws
+pub mod IdleLaws
+pub mod OverLaws
+pub mod ReadLaws
+pub mod FillLaws
+pub mod WriteLaws
+pub mod SkipLaws
+pub mod WriteOnLaws
