@@ -1,0 +1,2 @@
+pub mod WordTurns
+pub mod NameTurns

@@ -1,0 +1,4 @@
+pub mod LayTurns
+pub mod MarkTurns
+pub mod TextTurns
+pub mod SpellTurns

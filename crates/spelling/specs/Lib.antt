@@ -1,0 +1,11 @@
+pub mod Items
+pub mod Lays
+pub mod FormLaws
+pub mod Marks
+pub mod Meaning
+pub mod Told
+pub mod Spelt
+pub mod MeaningLaws
+pub mod SpeltLaws
+pub mod Outcomes
+pub mod Examples
