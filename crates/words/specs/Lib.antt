@@ -1,0 +1,5 @@
+pub mod Prints
+pub mod Words
+pub mod Lines
+pub mod Changes
+pub mod Dump
