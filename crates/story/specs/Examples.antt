@@ -30,7 +30,7 @@ use Rattle.pulses.specs.Pulse.{pulsed}
 use Rattle.bench.specs.Head.{leading, headOf}
 use Rattle.words.specs.Changes.{codeComes, fallsAsleep, powerBack, changes, turned, sampledBy}
 use Rattle.words.specs.Dump.{allFresh, spacedByte, spaced, rowText, rowsText, arrayText}
-use Rattle.words.specs.Lines.{begun, said, powerLine, openLine, codeLine, closeLine, storedLine, heldLine, keptLine, keptHeldLine, latchLine, noteText, byteLine, shownText, refusedLine, grownText, runLine, endLine}
+use Rattle.words.specs.Lines.{begun, said, powerLine, openLine, codeLine, closeLine, storedLine, heldLine, keptLine, keptHeldLine, latchLine, noteText, byteLine, shownText, refusedLine, grownText, runLine, leftLine, endLine}
 use Rattle.words.specs.Words.{address, reasonText, commandText, adviceText}
 use Rattle.story.specs.Scene.{acceptedText, eventScene, eventText, runScene, pulsesText, runText, itemScene, itemText}
 use Rattle.story.specs.Story.{endText, storyFrom, leftText, notPowered, fromPower, poweredText, story}
@@ -113,6 +113,7 @@ traces =
           ascii "0: power-up of part 1, 512 bytes, kept bits 04\n"
           ++ ascii "2: select 1\n"
           ++ ascii "4: refused 6: /HOLD would move with SCK high; lower SCK first\n"
+          ++ ascii "end: select 1 is open, clocks 1\n"
           ++ ascii "end: kept bits 04, latch off\n"
           ++ ascii "array: all FF\n";
     }
@@ -160,5 +161,5 @@ traces =
     ∷ []
 
 examples : T (all traces)
-unfolding all traces figureOf command afterCode afterAddress nextAddress takeBit fallWp byteWp byteCame afterFall bitOf showArray showStatus fall firstProtected mayStore opened codeRise upperRise lowerRise writeRise rise soundStage csFall csRise sckRise sckFall live step checks event written rests sound isOpen seesRise reading fillRefusal filled powerRefusal powerUp clocked counted codeAfter sampled risen shownAfter noted leading headOf afterEvent closes clockedBy shownBy after capitals hex decimal pulsed codeComes fallsAsleep powerBack changes turned sampledBy allFresh spacedByte spaced rowText rowsText arrayText begun said powerLine openLine codeLine closeLine storedLine heldLine keptLine keptHeldLine latchLine noteText byteLine shownText refusedLine grownText runLine endLine address reasonText commandText adviceText acceptedText eventScene eventText runScene pulsesText runText itemScene itemText endText storyFrom leftText notPowered fromPower poweredText story
+unfolding all traces figureOf command afterCode afterAddress nextAddress takeBit fallWp byteWp byteCame afterFall bitOf showArray showStatus fall firstProtected mayStore opened codeRise upperRise lowerRise writeRise rise soundStage csFall csRise sckRise sckFall live step checks event written rests sound isOpen seesRise reading fillRefusal filled powerRefusal powerUp clocked counted codeAfter sampled risen shownAfter noted leading headOf afterEvent closes clockedBy shownBy after capitals hex decimal pulsed codeComes fallsAsleep powerBack changes turned sampledBy allFresh spacedByte spaced rowText rowsText arrayText begun said powerLine openLine codeLine closeLine storedLine heldLine keptLine keptHeldLine latchLine noteText byteLine shownText refusedLine grownText runLine leftLine endLine address reasonText commandText adviceText acceptedText eventScene eventText runScene pulsesText runText itemScene itemText endText storyFrom leftText notPowered fromPower poweredText story
 examples = tt

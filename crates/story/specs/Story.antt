@@ -7,6 +7,7 @@ use lib.ListN.{length, replicate}
 use Rattle.trace.specs.Answers.{Told, Value, num, end}
 use Rattle.trace.specs.Number.{reading}
 use Rattle.parts.specs.Figures.{figureOf}
+use Rattle.pins.specs.Watch.{isOpen}
 use Rattle.pins.specs.declared.state.State.{State}
 use Rattle.chip.specs.Power.{powerUp, fresh, filled}
 use Rattle.chip.specs.declared.power.Powered.{Powered}
@@ -16,12 +17,16 @@ use Rattle.turns.specs.declared.stand.Stand.{Stand}
 use Rattle.bench.specs.Head.{headOf}
 use Rattle.bench.specs.declared.head.Head.{Head}
 use Rattle.words.specs.Dump.{arrayText}
-use Rattle.words.specs.Lines.{powerLine, refusedLine, endLine}
+use Rattle.words.specs.Lines.{powerLine, refusedLine, leftLine, endLine}
 use Rattle.story.specs.Scene.{Scene, runsOn, itemScene, itemText}
 
--- what is left at the end: the kept bits, the latch, and the array
+-- a select that is open at the end
+abbrev pub leftOpen : Stand → List ℕ
+leftOpen stand = cond (isOpen (stand .chip)) (leftLine stand) []
+
+-- what is left at the end: that select, the kept bits, the latch, and the array
 unfoldable pub endText : Stand → List ℕ → List ℕ
-endText stand array = endLine (stand .chip .kept) (stand .chip .latch) ++ arrayText array
+endText stand array = leftOpen stand ++ endLine (stand .chip .kept) (stand .chip .latch) ++ arrayText array
 
 -- the story goes on from a place, or a refusal stopped it
 abbrev pub goesOn : (ℕ → Scene → List ℕ) → ℕ → Scene → List ℕ

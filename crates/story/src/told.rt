@@ -4,8 +4,9 @@ ghost use Rattle.trace.specs.Items.{shortEvents};
 ghost use Rattle.turns.specs.Page.{pageOf, printed};
 ghost use Rattle.words.specs.Prints.{Prints};
 ghost use Rattle.story.specs.Scene.{sceneOf, acceptedText, eventScene, eventText, eventsScene, eventsText, runScene, pulsesText, runText, itemScene, itemText};
-ghost use Rattle.story.specs.Story.{endText, leftText};
+ghost use Rattle.story.specs.Story.{leftOpen, endText, leftText};
 use chip::event::event;
+use pins::watch::is_open;
 use pulses::run::take_pulses;
 use report::record::SHOWN;
 use select::notes::Note;
@@ -22,6 +23,7 @@ use words::changes::tell_changes;
 use words::changes::tell_turned;
 use words::dump::print_array;
 use words::lines::print_end;
+use words::lines::print_left;
 use words::lines::print_note;
 use words::lines::print_refused;
 use words::lines::print_run;
@@ -175,11 +177,23 @@ pub(crate) fn tell_items(
     turn
 }
 
-// The end: kept bits, the latch, and the array.
+// A select that is open at the end.
+fn tell_left(out: &mut [u8], at: usize, stand: Stand) -> usize
+    ensures { λ r. ⌜ Prints (pageOf (now (out .entry)) at) (leftOpen stand) (pageOf (now (out .exit)) r) ⌝ }
+{
+    let chip = stand.chip;
+    if is_open(chip) {
+        return print_left(out, at, stand);
+    }
+    at
+}
+
+// The end: a select that is open, kept bits, the latch, and the array.
 pub(crate) fn tell_end(out: &mut [u8], at: usize, stand: Stand, array: &[u8]) -> usize
     ensures { λ r. ⌜ Prints (pageOf (now (out .entry)) at) (endText stand (now (array .entry))) (pageOf (now (out .exit)) r) ⌝ }
 {
     let chip = stand.chip;
-    let next = print_end(out, at, chip.kept, chip.latch);
+    let next = tell_left(out, at, stand);
+    let next = print_end(out, next, chip.kept, chip.latch);
     print_array(out, next, array)
 }

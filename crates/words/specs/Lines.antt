@@ -100,6 +100,11 @@ runLine place pulses before after =
     ++ grownText (ascii ", bytes shown ") (before .shown) (after .shown)
     ++ ascii "\n"
 
+-- "end: select 3 is open, clocks 12"
+unfoldable pub leftLine : Stand → List ℕ
+leftLine stand =
+    ascii "end: select " ++ decimal (stand .selects) ++ ascii " is open, clocks " ++ decimal (stand .told .clocks) ++ ascii "\n"
+
 -- "end: kept bits 00, latch off"
 unfoldable pub endLine : ℕ → Bool → List ℕ
 endLine kept latch = ascii "end: kept bits " ++ hex kept ++ cond latch (ascii ", latch on\n") (ascii ", latch off\n")

@@ -2,7 +2,7 @@
 ghost use Prim.Native.Nat.{_-_};
 ghost use mathlib.Core.Path.{_≡_};
 ghost use Rattle.turns.specs.Page.{pageOf};
-ghost use Rattle.words.specs.Lines.{begun, said, powerLine, openLine, codeLine, closeLine, storedLine, heldLine, keptLine, keptHeldLine, latchLine, noteText, byteLine, shownText, refusedLine, grownText, runLine, endLine};
+ghost use Rattle.words.specs.Lines.{begun, said, powerLine, openLine, codeLine, closeLine, storedLine, heldLine, keptLine, keptHeldLine, latchLine, noteText, byteLine, shownText, refusedLine, grownText, runLine, leftLine, endLine};
 ghost use Rattle.words.specs.Prints.{Prints};
 use crate::page::print;
 use crate::page::print_address;
@@ -214,6 +214,18 @@ pub fn print_run(
     let next = print_grown(out, next, b", clocks ", before.clocks, after.clocks);
     let next = print_grown(out, next, b", bytes stored ", before.stored, after.stored);
     let next = print_grown(out, next, b", bytes shown ", before.shown, after.shown);
+    print(out, next, b"\n")
+}
+
+// A select that is open at the end.
+pub fn print_left(out: &mut [u8], at: usize, stand: Stand) -> usize
+    ensures { λ r. ⌜ Prints (pageOf (now (out .entry)) at) (leftLine stand) (pageOf (now (out .exit)) r) ⌝ }
+{
+    let told = stand.told;
+    let next = print(out, at, b"end: select ");
+    let next = print_decimal(out, next, stand.selects);
+    let next = print(out, next, b" is open, clocks ");
+    let next = print_decimal(out, next, told.clocks);
     print(out, next, b"\n")
 }
 

@@ -10,13 +10,16 @@ unfolding endText
 returns c =
     let print-array = c .before .before in
     let print-end = print-array .before .before .before .before in
-    print-end .print-end .ensures
+    let tell-left = print-end .before .before .before .before in
+    tell-left .tell-left .ensures
+    then print-end .print-end .ensures
     then print-array .print-array .ensures
 
 pub tell-end-spec : {M : Type 1} → statement M
 tell-end-spec =
     tie.close
     (tie.spec
+    (λ c κs. search needs)
     (λ c κs. search needs)
     (λ c κs. search needs)
     (λ c. search needs)
