@@ -1,5 +1,5 @@
 /* bench: compares and times the proved chip's list call and event call with the C chip's list.
-     bench fuzz [EVENTS] [SEED]   random and structured lists on parts 1, 3 and 4; stops at the first difference, made small
+     bench fuzz [EVENTS] [SEED]   random and structured lists on parts 1, 3, 4 and 5; stops at the first difference, made small
      bench time [RUNS] [PAD]      least time of RUNS runs on four traces for each part
      bench once PART TRACE SIDE   one run, trace 0 to 3, side 0 the list call, 1 the C chip, 2 event calls: for a count of
                                   instructions */
@@ -9,9 +9,13 @@
 #include <string.h>
 #include <time.h>
 
-typedef uint64_t list_call(uint64_t part, const uint64_t *codes, uint64_t n, uint8_t *array, uint64_t array_len, uint8_t *levels, uint64_t levels_len);
+typedef uint64_t list_call(uint64_t part, const uint64_t *codes, uint64_t n, uint8_t *array, uint64_t array_len, const uint8_t *serial, uint64_t serial_len,
+                           uint8_t *levels, uint64_t levels_len);
 list_call by_list, by_events;
 static list_call *const sides[3] = {by_list, c_list, by_events};
+
+/* One byte more than a serial number has, for a slice that is too long. */
+static const uint8_t serial[9] = {0x12, 0x34, 0x9A, 0x00, 0xFF, 0x5A, 0x81, 0x38, 0xC3};
 
 static uint64_t seed = 1;
 static uint32_t rnd(uint32_t n)
@@ -64,18 +68,18 @@ static void transfer(struct list *l, int part)
 {
     static const uint8_t ops[] = {6, 6, 6, 4, 5, 5, 1, 2, 2, 2, 3, 3, 10, 11, 6, 2};
     static const uint8_t more[] = {0xB9, 0x9F, 11, 11, 0xC3, 0x9F, 0xB9, 1};
-    int op = !rnd(12) ? (int)rnd(256) : part == 4 && !rnd(4) ? more[rnd(sizeof more)] : ops[rnd(sizeof ops)];
+    int op = !rnd(12) ? (int)rnd(256) : part >= 4 && !rnd(4) ? more[rnd(sizeof more)] : ops[rnd(sizeof ops)];
     if (rnd(8) == 0) put(l, 3 - rnd(2));
     put(l, 0);
     noisy_byte(l, op);
     unsigned n = rnd(5);
     if (op == 2 || op == 3 || op == 10 || op == 11) {
         if (part >= 3) noisy_byte(l, rnd(3) ? (int)(rnd(2) ? PARTS[part].upper : rnd(8)) : (int)rnd(256));
-        if (part == 4 && op == 11) noisy_byte(l, (int)rnd(256));
+        if (part >= 4 && op == 11) noisy_byte(l, (int)rnd(256));
         noisy_byte(l, rnd(3) ? (int)rnd(256) : 252 + (int)rnd(4));
         n = rnd(10) ? rnd(6) : rnd(40);
     }
-    if (op == 0x9F) n = rnd(13);
+    if (op == 0x9F || op == 0xC3) n = rnd(13);
     while (n--) noisy_byte(l, rnd(256));
     if (rnd(3) == 0) for (unsigned k = rnd(8); k; k--) { put(l, 4 + rnd(2)); noise(l); put(l, 3); noise(l); put(l, 2); noise(l); }
     if (rnd(10)) put(l, 1);
@@ -96,7 +100,7 @@ static void random_codes(struct list *l, int part, size_t n, int any)
     static const uint8_t common[] = {3, 2, 3, 2, 3, 2, 3, 2, 4, 5, 4, 5};
     struct chip c;
     static uint8_t array[16384];
-    chip_power_up(&c, part, 0, array);
+    chip_power_up(&c, part, 0, array, serial);
     l->n = 0;
     while (l->n < n) {
         unsigned code = any || rnd(6) == 0 ? rnd(12) : common[rnd(12)];
@@ -111,7 +115,7 @@ static void mostly_accepted(struct list *l, int part)
 {
     struct chip c;
     static uint8_t array[16384];
-    chip_power_up(&c, part, 0, array);
+    chip_power_up(&c, part, 0, array, serial);
     size_t m = 0;
     for (size_t i = 0; i < l->n; i++) {
         struct chip was = c;
@@ -122,20 +126,20 @@ static void mostly_accepted(struct list *l, int part)
     l->n = m;
 }
 
-/* Each call's answers and array, with `spare` answer places more than events (less, where negative) and an array `off` bytes
-   too long; places that nobody may write hold 99. Single calls are compared where the list's first checks pass. */
-static int differs(int part, const uint64_t *v, size_t n, int spare, int off, int say)
+/* Each call's answers and array, with `spare` answer places more than events (less, where negative), an array `off` bytes
+   too long and a serial number of `slen` bytes; places that nobody may write hold 99. Single calls are compared where the list's first checks pass. */
+static int differs(int part, const uint64_t *v, size_t n, int spare, int off, int slen, int say)
 {
     static uint8_t *levels[3]; static size_t room;
     if (room < n + 64) { room = n + 64; for (int k = 0; k < 3; k++) levels[k] = realloc(levels[k], room); }
     static uint8_t array[3][16386];
     size_t size = PARTS[part].size + off, places = n + spare;
     uint64_t told[3];
-    int bad = 0, last = off == 0 && spare >= 0 ? 2 : 1;
+    int bad = 0, last = off == 0 && spare >= 0 && (slen == 8 || !PARTS[part].serial) ? 2 : 1;
     for (int k = 0; k <= last; k++) {
         for (size_t i = 0; i < size; i++) array[k][i] = (uint8_t)(i * 37 + (i >> 8) * 11);
         memset(levels[k], 99, n + 64);
-        told[k] = sides[k](part, v, n, array[k], size, levels[k], places);
+        told[k] = sides[k](part, v, n, array[k], size, serial, slen, levels[k], places);
     }
     for (int k = 0; k <= last; k += 2) {
         if (told[k] != told[1]) { bad = 1; if (say) printf("  accepted and refusal: proved %llu %llu, C %llu %llu, of %zu\n", (unsigned long long)told[k] >> 8, (unsigned long long)told[k] & 255, (unsigned long long)told[1] >> 8, (unsigned long long)told[1] & 255, n); }
@@ -144,27 +148,27 @@ static int differs(int part, const uint64_t *v, size_t n, int spare, int off, in
     }
     return bad;
 }
-static void shrink(int part, struct list *l, int spare, int off)
+static void shrink(int part, struct list *l, int spare, int off, int slen)
 {
     for (size_t chunk = l->n / 2; chunk; chunk /= 2)
         for (size_t i = 0; i + chunk <= l->n;) {
             struct list t = {malloc(l->n * sizeof *t.v), l->n - chunk, l->n};
             memcpy(t.v, l->v, i * sizeof *t.v); memcpy(t.v + i, l->v + i + chunk, (l->n - i - chunk) * sizeof *t.v);
-            if (differs(part, t.v, t.n, spare, off, 0)) { free(l->v); *l = t; } else { free(t.v); i += chunk; }
+            if (differs(part, t.v, t.n, spare, off, slen, 0)) { free(l->v); *l = t; } else { free(t.v); i += chunk; }
         }
     printf("part %d, smallest list of codes:", part);
     for (size_t i = 0; i < l->n; i++) printf(" %llu", (unsigned long long)l->v[i]);
     printf("\n");
-    differs(part, l->v, l->n, spare, off, 1);
+    differs(part, l->v, l->n, spare, off, slen, 1);
 }
 static int fuzz(uint64_t events)
 {
     struct list l = {0};
     uint64_t done = 0, lists = 0, refused[256] = {0}, seen[12] = {0};
     while (done < events) {
-        static const uint8_t parts[] = {1, 3, 4};
-        int part = parts[lists % 3];
-        switch (lists / 3 % 4) {
+        static const uint8_t parts[] = {1, 3, 4, 5};
+        int part = parts[lists % 4];
+        switch (lists / 4 % 4) {
         case 0: random_codes(&l, part, 20000, 0); break;
         case 1: random_codes(&l, part, 2000, 1); break;
         case 2: structured(&l, part, 3000); break;
@@ -172,10 +176,10 @@ static int fuzz(uint64_t events)
         }
         if (lists % 8 == 7) l.v[rnd((uint32_t)l.n)] = rnd(2) ? 12 + rnd(300) : ((uint64_t)(1 + rnd(1 << 20)) << 32) + rnd(12);
         static const int places[] = {0, 0, 1, 40, 0, -1};
-        int spare = places[lists % 6], off = lists % 29 == 28 ? 1 - 2 * (int)rnd(2) : 0;
-        if (differs(part, l.v, l.n, spare, off, 0)) { shrink(part, &l, spare, off); return 1; }
+        int spare = places[lists % 6], off = lists % 29 == 28 ? 1 - 2 * (int)rnd(2) : 0, slen = lists % 7 == 6 ? (int)rnd(10) : 8;
+        if (differs(part, l.v, l.n, spare, off, slen, 0)) { shrink(part, &l, spare, off, slen); return 1; }
         static uint8_t a[16384]; uint8_t *lv = calloc(l.n, 1);
-        uint64_t told = c_list(part, l.v, l.n, a, PARTS[part].size + off, lv, l.n + spare), n = told >> 8;
+        uint64_t told = c_list(part, l.v, l.n, a, PARTS[part].size + off, serial, slen, lv, l.n + spare), n = told >> 8;
         for (uint64_t i = 0; i < n; i++) seen[l.v[i]]++;
         free(lv);
         refused[told & 255]++;
@@ -211,7 +215,7 @@ static void trace(struct list *l, int part, int kind)
         structured(l, part, 400000); mostly_accepted(l, part);
         for (size_t i = 0; i < l->n; i++) if (l->v[i] > 11) l->v[i] = 4;
         struct chip c; static uint8_t array[16384]; size_t m = 0;
-        chip_power_up(&c, part, 0, array);
+        chip_power_up(&c, part, 0, array, serial);
         for (size_t i = 0; i < l->n; i++) { struct chip was = c; if (chip_event(&c, l->v[i])) c = was; else l->v[m++] = l->v[i]; }
         l->n = m;
     }
@@ -220,7 +224,7 @@ static void run_once(int part, struct list *l, int side, uint8_t *levels)
 {
     static uint8_t array[16384];
     memset(array, 0x5A, PARTS[part].size);
-    uint64_t told = sides[side](part, l->v, l->n, array, PARTS[part].size, levels, l->n);
+    uint64_t told = sides[side](part, l->v, l->n, array, PARTS[part].size, serial, 8, levels, l->n);
     if (told != l->n * 256) { printf("refused at %llu\n", (unsigned long long)told >> 8); exit(1); }
 }
 
@@ -229,8 +233,8 @@ static double now(void) { struct timespec t; clock_gettime(CLOCK_MONOTONIC, &t);
 static void timing(int runs, int pad)
 {
     struct list l = {0};
-    static const int parts[] = {1, 3, 4};
-    for (int i = 0; i < 3; i++)
+    static const int parts[] = {1, 3, 4, 5};
+    for (int i = 0; i < 4; i++)
         for (int kind = 0; kind < 4; kind++) {
             int part = parts[i];
             trace(&l, part, kind);

@@ -2,13 +2,16 @@
 #include "chip.h"
 #include <string.h>
 
-const struct part PARTS[5] = {
+#define FM25V01 .size = 16384, .quarter = 0x3000, .half = 0x2000, .mask = 0x8C, .address_bytes = 2, .upper = 0x3F, .top = 0, .enable = 0x80, .guards_array = 0, \
+    .fast = 0x0B, .sleep = 0xB9, .rdid = 0x9F, .ident = {0x7F, 0x7F, 0x7F, 0x7F, 0x7F, 0x7F, 0xC2, 0x21, 0x00}, .wp_at_fall = 1
+
+const struct part PARTS[6] = {
     {0},
     {.size = 512, .quarter = 0x180, .half = 0x100, .mask = 0x0C, .address_bytes = 1, .upper = 1, .top = 8, .enable = 0, .guards_array = 1},
     {.size = 512, .quarter = 0x180, .half = 0x100, .mask = 0x0C, .address_bytes = 1, .upper = 1, .top = 8, .enable = 0, .guards_array = 1},
     {.size = 2048, .quarter = 0x600, .half = 0x400, .mask = 0x8C, .address_bytes = 2, .upper = 7, .top = 0, .enable = 0x80, .guards_array = 0},
-    {.size = 16384, .quarter = 0x3000, .half = 0x2000, .mask = 0x8C, .address_bytes = 2, .upper = 0x3F, .top = 0, .enable = 0x80, .guards_array = 0,
-     .fast = 0x0B, .sleep = 0xB9, .rdid = 0x9F, .ident = {0x7F, 0x7F, 0x7F, 0x7F, 0x7F, 0x7F, 0xC2, 0x21, 0x00}, .wp_at_fall = 1},
+    {FM25V01},
+    {FM25V01, .snr = 0xC3, .serial = 8},
 };
 
 static void at_rest(struct chip *c, int power)
@@ -21,12 +24,13 @@ static void at_rest(struct chip *c, int power)
     c->so = RELEASED;
 }
 
-void chip_power_up(struct chip *c, int part, uint8_t kept, uint8_t *array)
+void chip_power_up(struct chip *c, int part, uint8_t kept, uint8_t *array, const uint8_t *serial)
 {
     memset(c, 0, sizeof *c);
     c->p = &PARTS[part];
     c->kept = kept;
     c->array = array;
+    c->serial = serial;
     at_rest(c, 1);
 }
 
@@ -86,8 +90,8 @@ static void op_code(struct chip *c)
     else if (plain == 0x02) c->header = WRITING;
     else if (op == c->p->fast && op) c->header = DUMMY;
     else {
-        if (op == c->p->rdid && op) {
-            c->what = IDENT;
+        if (op && (op == c->p->rdid || op == c->p->snr)) {
+            c->what = op == c->p->rdid ? IDENT : SERIAL;
             c->at = 0;
             c->stage = READY;
         }
@@ -162,7 +166,7 @@ static void sck_rise(struct chip *c)
 
 static void show(struct chip *c)
 {
-    uint8_t byte = c->what == ARRAY ? c->array[c->at] : c->what == STATUS ? c->kept | c->latch << 1 : c->p->ident[c->at];
+    uint8_t byte = c->what == ARRAY ? c->array[c->at] : c->what == STATUS ? c->kept | c->latch << 1 : c->what == IDENT ? c->p->ident[c->at] : c->serial[c->at];
     c->so = byte >> c->bit & 1;
 }
 
@@ -170,7 +174,7 @@ static void sck_fall(struct chip *c)
 {
     if (c->stage == SHOWING) {
         if (c->bit == 0) {
-            if (c->what == STATUS || (c->what == IDENT && c->at == sizeof c->p->ident - 1)) {
+            if (c->what == STATUS || (c->what == IDENT && c->at == sizeof c->p->ident - 1) || (c->what == SERIAL && c->at == c->p->serial - 1u)) {
                 c->stage = OVER;
                 c->so = RELEASED;
                 return;
@@ -272,14 +276,17 @@ static INLINE int one(struct chip *c, uint64_t code)
 
 int chip_event(struct chip *c, uint64_t code) { return one(c, code); }
 
-uint64_t c_list(uint64_t part, const uint64_t *codes, uint64_t n, uint8_t *array, uint64_t array_len, uint8_t *levels, uint64_t levels_len)
+uint64_t c_list(uint64_t part, const uint64_t *codes, uint64_t n, uint8_t *array, uint64_t array_len, const uint8_t *serial, uint64_t serial_len,
+                uint8_t *levels, uint64_t levels_len)
 {
     struct chip c;
     if (array_len != PARTS[part].size)
         return 2;
+    if (PARTS[part].serial && serial_len != PARTS[part].serial)
+        return 15;
     if (levels_len < n)
         return 12;
-    chip_power_up(&c, (int)part, 0, array);
+    chip_power_up(&c, (int)part, 0, array, serial);
     for (uint64_t i = 0; i < n; i++) {
         int refusal = one(&c, codes[i]);
         if (refusal)

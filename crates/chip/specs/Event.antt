@@ -4,7 +4,7 @@ use mathlib.Core.Bool.{Bool, true, false, cond, not}
 use mathlib.Core.List.{List}
 use lib.ListN.{length, set}
 use lib.Dec.{eqb, leb}
-use Rattle.parts.specs.Figures.{figureOf, fitsPart}
+use Rattle.parts.specs.Figures.{figureOf, fitsPart, fitsSerial}
 use Rattle.parts.specs.declared.figures.Figure.{Figure}
 use Rattle.stages.specs.Close.{isClosed}
 use Rattle.select.specs.declared.notes.Level.the-variants.{Released}
@@ -37,9 +37,9 @@ abbrev pub csTo : Figure → State → Bool → Moved
 csTo f s true = cond (csLevel s) (silent s) (csRise s)
 csTo f s false = cond (csLevel s) (csFall f s) (silent s)
 
-abbrev pub sckTo : Figure → List ℕ → State → Bool → Moved
-sckTo f xs s true = cond (s .sck) (silent s) (sckRise f s)
-sckTo f xs s false = cond (s .sck) (sckFall f xs s) (silent s)
+abbrev pub sckTo : Figure → List ℕ → List ℕ → State → Bool → Moved
+sckTo f serial xs s true = cond (s .sck) (silent s) (sckRise f s)
+sckTo f serial xs s false = cond (s .sck) (sckFall f serial xs s) (silent s)
 
 -- "the level it had when /HOLD fell": high exactly where no select is open, since moves in hold are not seen
 unfoldable pub csStayed : State → Bool
@@ -62,10 +62,10 @@ vddTo s true = silent s
 vddTo s false = vddFall s
 
 -- "Pins: 0 /CS, 1 SCK, 2 SI, 3 /HOLD, 4 /WP, 5 VDD."
-unfoldable pub live : Figure → List ℕ → State → ℕ → Bool → Stepped
-live f xs s pin level =
+unfoldable pub live : Figure → List ℕ → List ℕ → State → ℕ → Bool → Stepped
+live f serial xs s pin level =
     cond (eqb pin 0) (accepted (csTo f s level))
-    (cond (eqb pin 1) (accepted (sckTo f xs s level))
+    (cond (eqb pin 1) (accepted (sckTo f serial xs s level))
     (cond (eqb pin 2) (accepted (siTo s level))
     (cond (eqb pin 3) (holdTo s level)
     (cond (eqb pin 4) (accepted (wpTo s level))
@@ -77,29 +77,36 @@ abbrev pub dark : State → ℕ → Stepped
 dark s code = accepted (cond (eqb code 11) (vddRise s) (silent s))
 
 -- "its code is twice the pin number plus the level"
-unfoldable pub step : Figure → List ℕ → State → ℕ → Stepped
-step f xs s code = cond (s .power) (live f xs s (code / 2) (eqb (code % 2) 1)) (dark s code)
+unfoldable pub step : Figure → List ℕ → List ℕ → State → ℕ → Stepped
+step f serial xs s code = cond (s .power) (live f serial xs s (code / 2) (eqb (code % 2) 1)) (dark s code)
 
 -- the first of two refusals that is given
 abbrev pub first : ℕ → ℕ → ℕ
 first a b = cond (eqb a 0) b a
 
--- 4 "state fails the soundness test", 2 "array length is not the part's"; 0 where none is given
-abbrev pub lendRefusal : State → ℕ → ℕ
-lendRefusal s len = cond (not (sound s)) 4 (cond (not (fitsPart (s .part) len)) 2 0)
+-- 4 "state fails the soundness test", 2 "array length is not the part's", 15 "serial not eight bytes long" (document 02, Wish 8:
+--  "after 2"); 0 where none is given. By the lengths of the array and of the serial number.
+abbrev pub lendRefusal : State → ℕ → ℕ → ℕ
+lendRefusal s len serial =
+    cond (not (sound s)) 4
+    (cond (not (fitsPart (s .part) len)) 2
+    (cond (not (fitsSerial (s .part) serial)) 15
+    0))
 
--- "An event checks 4, 2, 5, 6, 7." The first three: 4, 2, 5 "event code 12 or more".
-unfoldable pub checks : State → ℕ → ℕ → ℕ
-checks s len code = first (lendRefusal s len) (cond (leb 12 code) 5 0)
+-- "An event checks 4, 2, 5, 6, 7." Those before 6 and 7: 4, 2, 15, then 5 "event code 12 or more".
+unfoldable pub checks : State → ℕ → ℕ → ℕ → ℕ
+checks s len serial code = first (lendRefusal s len serial) (cond (leb 12 code) 5 0)
 
 -- refused by the first checks, or the step
-abbrev pub tried : Figure → List ℕ → State → ℕ → Stepped
-tried f xs s code =
-    cond (eqb (checks s (length xs) code) 0) (step f xs s code) (refused (checks s (length xs) code) s)
+abbrev pub tried : Figure → List ℕ → List ℕ → State → ℕ → Stepped
+tried f serial xs s code =
+    cond (eqb (checks s (length xs) (length serial) code) 0)
+    (step f serial xs s code)
+    (refused (checks s (length xs) (length serial) code) s)
 
--- one event on the lent array
-unfoldable pub event : List ℕ → State → ℕ → Answer
-event xs s code = answerOf (tried (figureOf (s .part)) xs s code)
+-- one event on the lent array xs, with the lent serial number, which stands first here, since it stays from event to event
+unfoldable pub event : List ℕ → List ℕ → State → ℕ → Answer
+event serial xs s code = answerOf (tried (figureOf (s .part)) serial xs s code)
 
 -- the array after an event: one byte changes, where the note says stored
 unfoldable pub written : Note → List ℕ → List ℕ

@@ -7,7 +7,7 @@ use mathlib.Core.List.{List}
 use lib.ListN.{length}
 use lib.Dec.{eqb, leb}
 use borrow.Author.Tests.{eqb-false, eqb-true, eq-eqb, ne-eqb, leb-false}
-use Rattle.parts.specs.Figures.{figureOf, fitsPart}
+use Rattle.parts.specs.Figures.{figureOf, fitsPart, takesSerial, fitsSerial}
 use Rattle.parts.specs.declared.figures.Figure.{Figure}
 use Rattle.chip.specs.Event.{lendRefusal, checks, tried, event, step, refused, answerOf}
 use Rattle.pins.specs.Sound.{soundBy, sound}
@@ -31,101 +31,113 @@ module _ (code pin : ℕ) where
   pub pin-past : pin * 2 + 2 ≤ code → eqb (code / 2) pin ≡ false
   pin-past past = ne-eqb (code / 2) pin (λ e. omega (arith, e, past))
 
-module _ (f : Figure) (xs : List ℕ) (s : State) (code : ℕ) where
+module _ (f : Figure) (serial xs : List ℕ) (s : State) (code : ℕ) where
   by : Bool → Stepped
-  by passed = cond passed (step f xs s code) (refused (checks s (length xs) code) s)
+  by passed = cond passed (step f serial xs s code) (refused (checks s (length xs) (length serial) code) s)
 
   -- what an attempt comes to in either case
-  pub tried-steps : eqb (checks s (length xs) code) 0 ≡ true → tried f xs s code ≡ step f xs s code
+  pub tried-steps : eqb (checks s (length xs) (length serial) code) 0 ≡ true → tried f serial xs s code ≡ step f serial xs s code
   unfolding by
   tried-steps e = ap by e
 
-  pub tried-stops : eqb (checks s (length xs) code) 0 ≡ false → tried f xs s code ≡ refused (checks s (length xs) code) s
+  pub tried-stops : eqb (checks s (length xs) (length serial) code) 0 ≡ false → tried f serial xs s code ≡ refused (checks s (length xs) (length serial) code) s
   unfolding by
   tried-stops e = ap by e
 
-  -- where nothing is refused of the state and the array, the code alone decides
-  pub tried-known : lendRefusal s (length xs) ≡ 0 → leb 12 code ≡ false → tried f xs s code ≡ step f xs s code
+  -- where nothing is refused of the state and what is lent with it, the code alone decides
+  pub tried-known : lendRefusal s (length xs) (length serial) ≡ 0 → leb 12 code ≡ false → tried f serial xs s code ≡ step f serial xs s code
   unfolding checks
   tried-known lent e = rw (eq-eqb _ _ lent, e)
 
-  pub tried-unknown : lendRefusal s (length xs) ≡ 0 → leb 12 code ≡ true → tried f xs s code ≡ refused 5 s
+  pub tried-unknown : lendRefusal s (length xs) (length serial) ≡ 0 → leb 12 code ≡ true → tried f serial xs s code ≡ refused 5 s
   unfolding checks
   tried-unknown lent e = rw (eq-eqb _ _ lent, e)
 
-module _ (xs : List ℕ) (s : State) (code : ℕ) where
-  pub event-steps : eqb (checks s (length xs) code) 0 ≡ true → event xs s code ≡ answerOf (step (figureOf (s .part)) xs s code)
+module _ (serial xs : List ℕ) (s : State) (code : ℕ) where
+  pub event-steps : eqb (checks s (length xs) (length serial) code) 0 ≡ true → event serial xs s code ≡ answerOf (step (figureOf (s .part)) serial xs s code)
   unfolding event
-  event-steps e = ap answerOf (tried-steps (figureOf (s .part)) xs s code e)
+  event-steps e = ap answerOf (tried-steps (figureOf (s .part)) serial xs s code e)
 
-  pub checks-none : sound s ≡ true → fitsPart (s .part) (length xs) ≡ true → leb 12 code ≡ false → checks s (length xs) code ≡ 0
+  pub checks-none :
+      sound s ≡ true → fitsPart (s .part) (length xs) ≡ true → fitsSerial (s .part) (length serial) ≡ true → leb 12 code ≡ false
+      → checks s (length xs) (length serial) code ≡ 0
   unfolding checks
-  checks-none good fits known = rw (good, fits, known)
+  checks-none good fits own known = rw (good, fits, own, known)
 
-  -- what is refused of the state and the array comes before 5, 6 and 7
-  checks-first : eqb (lendRefusal s (length xs)) 0 ≡ false → checks s (length xs) code ≡ lendRefusal s (length xs)
+  -- what is refused of the state and what is lent with it comes before 5, 6 and 7
+  checks-first : eqb (lendRefusal s (length xs) (length serial)) 0 ≡ false → checks s (length xs) (length serial) code ≡ lendRefusal s (length xs) (length serial)
   unfolding checks
   checks-first e = rw e
 
-  pub event-lends : eqb (lendRefusal s (length xs)) 0 ≡ false → event xs s code ≡ answerOf (refused (lendRefusal s (length xs)) s)
+  pub event-lends : eqb (lendRefusal s (length xs) (length serial)) 0 ≡ false → event serial xs s code ≡ answerOf (refused (lendRefusal s (length xs) (length serial)) s)
   unfolding event
   event-lends e =
       ap answerOf
-      (tried-stops (figureOf (s .part)) xs s code (ap (λ (n : ℕ). eqb n 0) (checks-first e) ∙ e)
+      (tried-stops (figureOf (s .part)) serial xs s code (ap (λ (n : ℕ). eqb n 0) (checks-first e) ∙ e)
       ∙ ap (λ (n : ℕ). refused n s) (checks-first e))
 
--- what the checks let through: the state is sound, the array is the part's
-pub lend-passed : (s : State) (len : ℕ) → lendRefusal s len ≡ 0 → (sound s ≡ true) × (fitsPart (s .part) len ≡ true)
-lend-passed s len = go (sound s) (fitsPart (s .part) len)
-  where
-    go : (a b : Bool) → _≡_ {A = ℕ} (cond (not a) 4 (cond (not b) 2 0)) 0 → (a ≡ true) × (b ≡ true)
-    go false b h = absurd (eqb-false 4 0 refl h)
-    go true false h = absurd (eqb-false 2 0 refl h)
-    go true true h = (refl, refl)
+-- what the checks let through: the state is sound, the array and the serial number are the part's
+abbrev pub Lends : State → ℕ → ℕ → Type 0
+Lends s len serial = (sound s ≡ true) × (fitsPart (s .part) len ≡ true) × (fitsSerial (s .part) serial ≡ true)
 
-pub lend-none : (s : State) (len : ℕ) → sound s ≡ true → fitsPart (s .part) len ≡ true → lendRefusal s len ≡ 0
-lend-none s len good fits = rw (good, fits)
+pub lend-passed : (s : State) (len serial : ℕ) → lendRefusal s len serial ≡ 0 → Lends s len serial
+lend-passed s len serial = go (sound s) (fitsPart (s .part) len) (fitsSerial (s .part) serial)
+  where
+    go : (a b d : Bool) → _≡_ {A = ℕ} (cond (not a) 4 (cond (not b) 2 (cond (not d) 15 0))) 0 → (a ≡ true) × (b ≡ true) × (d ≡ true)
+    go false b d h = absurd (eqb-false 4 0 refl h)
+    go true false d h = absurd (eqb-false 2 0 refl h)
+    go true true false h = absurd (eqb-false 15 0 refl h)
+    go true true true h = (refl, refl, refl)
+
+pub lend-none : (s : State) (len serial : ℕ) → Lends s len serial → lendRefusal s len serial ≡ 0
+lend-none s len serial lent = rw (lent .0, lent .1, lent .2)
 
 -- the code that has the part's row tests by it
-module _ (f : Figure) (s : State) (len : ℕ) (row : f ≡ figureOf (s .part)) {good : Bool} (told : good ≡ soundBy f s) where
+module _ (f : Figure) (s : State) (len serial : ℕ) (row : f ≡ figureOf (s .part)) {good : Bool} (told : good ≡ soundBy f s) where
   by-row : good ≡ sound s
   by-row = told ∙ sound-row s row
 
   by-size : {t : Bool} → eqb len (f .size) ≡ t → fitsPart (s .part) len ≡ t
   by-size e = ap (λ (g : Figure). eqb len (g .size)) (sym row) ∙ e
 
-  pub lend-unsound : not good ≡ true → 4 ≡ lendRefusal s len
+  pub lend-unsound : not good ≡ true → 4 ≡ lendRefusal s len serial
   lend-unsound h = rw (denied by-row h)
 
-  pub lend-misfits : not good ≡ false → (len ≡ f .size → ⊥) → 2 ≡ lendRefusal s len
+  pub lend-misfits : not good ≡ false → (len ≡ f .size → ⊥) → 2 ≡ lendRefusal s len serial
   lend-misfits h e = rw (granted by-row h, by-size (ne-eqb _ _ e))
 
-  pub lend-fine : not good ≡ false → len ≡ f .size → 0 ≡ lendRefusal s len
-  lend-fine h e = rw (granted by-row h, by-size (eq-eqb _ _ e))
+  module _ {own : Bool} (taken : own ≡ takesSerial f serial) (h : not good ≡ false) (e : len ≡ f .size) where
+    by-own : own ≡ fitsSerial (s .part) serial
+    by-own = taken ∙ ap (λ (g : Figure). takesSerial g serial) row
+
+    pub lend-unnumbered : not own ≡ true → 15 ≡ lendRefusal s len serial
+    lend-unnumbered n = rw (granted by-row h, by-size (eq-eqb _ _ e), denied by-own n)
+
+    pub lend-fine : not own ≡ false → 0 ≡ lendRefusal s len serial
+    lend-fine n = rw (granted by-row h, by-size (eq-eqb _ _ e), granted by-own n)
 
 -- and the code is a pin and a level
-pub checks-passed :
-    (s : State) (len code : ℕ) → checks s len code ≡ 0 → (sound s ≡ true) × (fitsPart (s .part) len ≡ true) × (code < 12)
+pub checks-passed : (s : State) (len serial code : ℕ) → checks s len serial code ≡ 0 → Lends s len serial × (code < 12)
 unfolding checks
-checks-passed s len code = go (eqb (lendRefusal s len) 0) (leb 12 code) refl refl
+checks-passed s len serial code = go (eqb (lendRefusal s len serial) 0) (leb 12 code) refl refl
   where
-    go : (fine known : Bool) → eqb (lendRefusal s len) 0 ≡ fine → leb 12 code ≡ known
-        → cond fine (cond known 5 0) (lendRefusal s len) ≡ 0 → (sound s ≡ true) × (fitsPart (s .part) len ≡ true) × (code < 12)
+    go : (fine known : Bool) → eqb (lendRefusal s len serial) 0 ≡ fine → leb 12 code ≡ known
+        → cond fine (cond known 5 0) (lendRefusal s len serial) ≡ 0 → Lends s len serial × (code < 12)
     go true true p e h = absurd (eqb-false 5 0 refl h)
-    go true false p e h = (lend-passed s len (eqb-true _ _ p) .0, lend-passed s len (eqb-true _ _ p) .1, leb-false 12 code e)
+    go true false p e h = (lend-passed s len serial (eqb-true _ _ p), leb-false 12 code e)
     go false known p e h = absurd (eqb-false _ _ p h)
 
 -- an accepted event passed the checks, and is a step
-module _ (xs : List ℕ) (s : State) (code : ℕ) (fine : event xs s code .refusal ≡ 0) where
-  pub accepted-passed : checks s (length xs) code ≡ 0
+module _ (serial xs : List ℕ) (s : State) (code : ℕ) (fine : event serial xs s code .refusal ≡ 0) where
+  pub accepted-passed : checks s (length xs) (length serial) code ≡ 0
   unfolding event
-  accepted-passed = go (eqb (checks s (length xs) code) 0) refl fine
+  accepted-passed = go (eqb (checks s (length xs) (length serial) code) 0) refl fine
     where
-      go : (t : Bool) → eqb (checks s (length xs) code) 0 ≡ t
-          → cond t (step (figureOf (s .part)) xs s code) (refused (checks s (length xs) code) s) .refusal ≡ 0
-          → checks s (length xs) code ≡ 0
+      go : (t : Bool) → eqb (checks s (length xs) (length serial) code) 0 ≡ t
+          → cond t (step (figureOf (s .part)) serial xs s code) (refused (checks s (length xs) (length serial) code) s) .refusal ≡ 0
+          → checks s (length xs) (length serial) code ≡ 0
       go true e h = eqb-true _ _ e
       go false e h = h
 
-  pub accepted-steps : event xs s code ≡ answerOf (step (figureOf (s .part)) xs s code)
-  accepted-steps = event-steps xs s code (eq-eqb _ _ accepted-passed)
+  pub accepted-steps : event serial xs s code ≡ answerOf (step (figureOf (s .part)) serial xs s code)
+  accepted-steps = event-steps serial xs s code (eq-eqb _ _ accepted-passed)

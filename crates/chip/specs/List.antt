@@ -49,14 +49,17 @@ turn c a = cond (eqb (a .refusal) 0) (tookOne c a) (stopsAt c (a .refusal))
 
 -- "The outcome equals the single calls one after the other: state, array and levels. It stops at the first refusal".
 -- "The soundness test runs before each event": it is the event's own.
-unfoldable pub course : Course → List ℕ → Course
-course c [] = c
-course c (code ∷ codes) = cond (eqb (c .refusal) 0) (course (turn c (event (c .array) (c .state) code)) codes) c
+unfoldable pub course : List ℕ → Course → List ℕ → Course
+course serial c [] = c
+course serial c (code ∷ codes) =
+    cond (eqb (c .refusal) 0) (course serial (turn c (event serial (c .array) (c .state) code)) codes) c
 
--- "Refusals, checked first even for an empty list: 4, 2, then 12, answer slice shorter than the event slice."
-unfoldable pub listRefusal : State → ℕ → ℕ → ℕ → ℕ
-listRefusal s len codes levels = first (lendRefusal s len) (cond (ltb levels codes) 12 0)
+-- "Refusals, checked first even for an empty list: 4, 2, then 12, answer slice shorter than the event slice." 15 comes "after 2 and
+--  before 12".
+unfoldable pub listRefusal : State → ℕ → ℕ → ℕ → ℕ → ℕ
+listRefusal s len serial codes levels = first (lendRefusal s len serial) (cond (ltb levels codes) 12 0)
 
--- the list call on the lent array, from the state s
-unfoldable pub listed : List ℕ → State → List ℕ → List ℕ → Course
-listed xs s codes levels = course (setOut (listRefusal s (length xs) (length codes) (length levels)) s xs levels) codes
+-- the list call on the lent array xs, with the lent serial number, from the state s
+unfoldable pub listed : List ℕ → List ℕ → State → List ℕ → List ℕ → Course
+listed serial xs s codes levels =
+    course serial (setOut (listRefusal s (length xs) (length serial) (length codes) (length levels)) s xs levels) codes

@@ -26,17 +26,17 @@ paper-sole a b e = λ i. record { refusal = e i .refusal; so = so i; note = note
     note = note-sole (a .note) (b .note) (ap (λ (p : Paper). p .note) e)
 
 -- what a call leaves: its answer and the lent array
-module _ (xs : List ℕ) (s : State) (code : ℕ) where
+module _ (serial xs : List ℕ) (s : State) (code : ℕ) where
   pub event-sole : (a b : Answer) (ys zs : List ℕ)
-      → EventPromise xs s code a ys
-      → EventPromise xs s code b zs
+      → EventPromise serial xs s code a ys
+      → EventPromise serial xs s code b zs
       → (a ≡ b) × (ys ≡ zs)
   event-sole a b ys zs p q = (paper-sole a b (sole (p .0) (q .0)), sole (p .1) (q .1))
 
-module _ (xs : List ℕ) (s : State) (codes levels : List ℕ) where
+module _ (serial xs : List ℕ) (s : State) (codes levels : List ℕ) where
   pub list-sole : (a b : Listed) (ys zs ls ms : List ℕ)
-      → ListPromise xs s codes levels a ys ls
-      → ListPromise xs s codes levels b zs ms
+      → ListPromise serial xs s codes levels a ys ls
+      → ListPromise serial xs s codes levels b zs ms
       → (a ≡ b) × (ys ≡ zs) × (ls ≡ ms)
   list-sole a b ys zs ls ms p q = (
     λ i. record { refusal = sole (p .0) (q .0) i; count = sole (p .1) (q .1) i; state = sole (p .2) (q .2) i },

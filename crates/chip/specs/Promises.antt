@@ -11,18 +11,19 @@ use Rattle.chip.specs.declared.event.Answer.{Answer}
 use Rattle.chip.specs.declared.list.Listed.{Listed}
 use Rattle.pins.specs.declared.state.State.{State}
 
--- an event on the array xs, from the state s: the answer a in the numbers of document 01, and the array ys
-abbrev pub EventPromise : List ℕ → State → ℕ → Answer → List ℕ → Type 0
-EventPromise xs s code a ys = (paper a ≡ paper (event xs s code)) × (ys ≡ written (event xs s code .note) xs)
+-- an event on the array xs, with the serial number, from the state s: the answer a in the numbers of document 01, and the array ys
+abbrev pub EventPromise : List ℕ → List ℕ → State → ℕ → Answer → List ℕ → Type 0
+EventPromise serial xs s code a ys = (paper a ≡ paper (event serial xs s code)) × (ys ≡ written (event serial xs s code .note) xs)
 
--- a list of events on the array xs, from the state s, with the answers os: the answer a, the array ys and the answers ls
-abbrev pub ListPromise : List ℕ → State → List ℕ → List ℕ → Listed → List ℕ → List ℕ → Type 0
-ListPromise xs s codes os a ys ls =
-    (a .refusal ≡ listed xs s codes os .refusal)
-    × (a .count ≡ listed xs s codes os .count)
-    × (a .state ≡ listed xs s codes os .state)
-    × (ys ≡ listed xs s codes os .array)
-    × (ls ≡ listed xs s codes os .levels)
+-- a list of events on the array xs, with the serial number, from the state s, with the answers os: the answer a, the array ys
+-- and the answers ls
+abbrev pub ListPromise : List ℕ → List ℕ → State → List ℕ → List ℕ → Listed → List ℕ → List ℕ → Type 0
+ListPromise serial xs s codes os a ys ls =
+    (a .refusal ≡ listed serial xs s codes os .refusal)
+    × (a .count ≡ listed serial xs s codes os .count)
+    × (a .state ≡ listed serial xs s codes os .state)
+    × (ys ≡ listed serial xs s codes os .array)
+    × (ls ≡ listed serial xs s codes os .levels)
 
 -- the array xs filled with one byte: the refusal a, or 0, and the array ys
 abbrev pub FillPromise : ℕ → ℕ → List ℕ → ℕ → List ℕ → Type 0

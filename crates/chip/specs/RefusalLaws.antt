@@ -35,33 +35,33 @@ module _ (s : State) where
   hold-told false =
       choose Told (holdHigh (s .hold)) (choose Told (s .sck) (refuse 6) (accept (holdFall s))) (accept (silent s))
 
-  live-told : (f : Figure) (xs : List ℕ) (pin : ℕ) (level : Bool) → Told (live f xs s pin level)
+  live-told : (f : Figure) (serial xs : List ℕ) (pin : ℕ) (level : Bool) → Told (live f serial xs s pin level)
   unfolding live
-  live-told f xs pin level =
+  live-told f serial xs pin level =
       choose Told (eqb pin 0) (accept (csTo f s level))
-      (choose Told (eqb pin 1) (accept (sckTo f xs s level))
+      (choose Told (eqb pin 1) (accept (sckTo f serial xs s level))
       (choose Told (eqb pin 2) (accept (siTo s level))
       (choose Told (eqb pin 3) (hold-told level)
       (choose Told (eqb pin 4) (accept (wpTo s level))
       (accept (vddTo s level))))))
 
   tested-told :
-      (xs : List ℕ) (code : ℕ)
-      → Told (tried (figureOf (s .part)) xs s code)
+      (serial xs : List ℕ) (code : ℕ)
+      → Told (tried (figureOf (s .part)) serial xs s code)
   unfolding step
-  tested-told xs code =
-      choose Told (eqb (checks s (length xs) code) 0)
+  tested-told serial xs code =
+      choose Told (eqb (checks s (length xs) (length serial) code) 0)
       (choose Told (s .power)
-      (live-told (figureOf (s .part)) xs (code / 2) (eqb (code % 2) 1))
+      (live-told (figureOf (s .part)) serial xs (code / 2) (eqb (code % 2) 1))
       (accept (cond (eqb code 11) (vddRise s) (silent s))))
-      (refuse (checks s (length xs) code))
+      (refuse (checks s (length xs) (length serial) code))
 
   pub refusal-told :
-      (xs : List ℕ) (code : ℕ) → eqb (event xs s code .refusal) 0 ≡ false → event xs s code ≡ answerOf (refused (event xs s code .refusal) s)
+      (serial xs : List ℕ) (code : ℕ) → eqb (event serial xs s code .refusal) 0 ≡ false → event serial xs s code ≡ answerOf (refused (event serial xs s code .refusal) s)
   unfolding event
-  refusal-told xs code h = ap answerOf (tested-told xs code h)
+  refusal-told serial xs code h = ap answerOf (tested-told serial xs code h)
 
   pub refusal-stays :
-      (xs : List ℕ) (code : ℕ) → eqb (event xs s code .refusal) 0 ≡ false → written (event xs s code .note) xs ≡ xs
+      (serial xs : List ℕ) (code : ℕ) → eqb (event serial xs s code .refusal) 0 ≡ false → written (event serial xs s code .note) xs ≡ xs
   unfolding written
-  refusal-stays xs code h = ap (λ (a : Answer). written (a .note) xs) (refusal-told xs code h)
+  refusal-stays serial xs code h = ap (λ (a : Answer). written (a .note) xs) (refusal-told serial xs code h)

@@ -9,25 +9,26 @@ use Rattle.chip.specs.Event.{event, written}
 use Rattle.chip.specs.Power.{powerUp}
 use Rattle.chip.specs.declared.event.Answer.{Answer}
 
--- the state and the array
+-- the state, and what is lent with it: the array, and the serial number, which stays
 pub record Chip : Type 0 where
   pub state : State
   pub array : List ℕ
+  pub serial : List ℕ
 
 abbrev pub answered : Chip → Answer → Chip
-answered c a = record { state = a .state; array = written (a .note) (c .array) }
+answered c a = record { state = a .state; array = written (a .note) (c .array); serial = c .serial }
 
--- the power-up state, over an array
-abbrev pub poweredUp : ℕ → ℕ → List ℕ → Chip
-poweredUp part kept array = record { state = atRest part kept true; array = array }
+-- the power-up state, over an array and with a serial number
+abbrev pub poweredUp : ℕ → ℕ → List ℕ → List ℕ → Chip
+poweredUp part kept array serial = record { state = atRest part kept true; array = array; serial = serial }
 
--- what the power-up call gives, over the array that was lent to it
-abbrev pub fromPowerUp : ℕ → ℕ → List ℕ → Chip
-fromPowerUp part kept array = record { state = powerUp part kept array .state; array = array }
+-- what the power-up call gives, over the array that was lent to it; it "takes no serial"
+abbrev pub fromPowerUp : ℕ → ℕ → List ℕ → List ℕ → Chip
+fromPowerUp part kept array serial = record { state = powerUp part kept array .state; array = array; serial = serial }
 
 -- one event; a refused one changes nothing, as its answer says
 unfoldable pub next : Chip → ℕ → Chip
-next c code = answered c (event (c .array) (c .state) code)
+next c code = answered c (event (c .serial) (c .array) (c .state) code)
 
 unfoldable pub run : Chip → List ℕ → Chip
 run c [] = c

@@ -1,4 +1,4 @@
--- What an event keeps, and so a run of them: the part, the array's length, soundness. Assumes nothing.
+-- What an event keeps, and so a run of them: the part, the array's length, the serial number, soundness. Assumes nothing.
 use Prim.Native.Nat.{ℕ, _/_, _%_}
 use mathlib.Core.Path.{_≡_, refl, _∙_}
 use mathlib.Core.Bool.{Bool, true, false, _&&_}
@@ -49,10 +49,10 @@ module _ (s : State) where
       choose Moves (csLevel s) refl (choose Moves (holdHigh (s .hold)) (choose Moves (s .latch && drops (s .stage)) refl refl) refl)
   cs-part f false = choose Moves (csLevel s) (choose Same (holdHigh (s .hold)) refl refl) refl
 
-  sck-part : (f : Figure) (xs : List ℕ) (level : Bool) → Moves (sckTo f xs s level)
+  sck-part : (f : Figure) (serial xs : List ℕ) (level : Bool) → Moves (sckTo f serial xs s level)
   unfolding sckRise sckFall
-  sck-part f xs true = choose Moves (s .sck) refl (choose Moves (holdHigh (s .hold)) refl refl)
-  sck-part f xs false = choose Moves (s .sck) (choose Same (holdHigh (s .hold)) refl refl) refl
+  sck-part f serial xs true = choose Moves (s .sck) refl (choose Moves (holdHigh (s .hold)) refl refl)
+  sck-part f serial xs false = choose Moves (s .sck) (choose Same (holdHigh (s .hold)) refl refl) refl
 
   hold-part : (level : Bool) → Steps (holdTo s level)
   unfolding holdFall holdRise
@@ -63,35 +63,35 @@ module _ (s : State) where
   vdd-part true = refl
   vdd-part false = refl
 
-  live-part : (f : Figure) (xs : List ℕ) (pin : ℕ) (level : Bool) → Steps (live f xs s pin level)
+  live-part : (f : Figure) (serial xs : List ℕ) (pin : ℕ) (level : Bool) → Steps (live f serial xs s pin level)
   unfolding live
-  live-part f xs pin level =
+  live-part f serial xs pin level =
       choose Steps (eqb pin 0) (cs-part f level)
-      (choose Steps (eqb pin 1) (sck-part f xs level)
+      (choose Steps (eqb pin 1) (sck-part f serial xs level)
       (choose Steps (eqb pin 2) refl
       (choose Steps (eqb pin 3) (hold-part level)
       (choose Steps (eqb pin 4) refl
       (vdd-part level)))))
 
-  pub event-part : (xs : List ℕ) (code : ℕ) → event xs s code .state .part ≡ s .part
+  pub event-part : (serial xs : List ℕ) (code : ℕ) → event serial xs s code .state .part ≡ s .part
   unfolding event step
-  event-part xs code =
-      choose Steps (eqb (checks s (length xs) code) 0)
-      (choose Steps (s .power) (live-part (figureOf (s .part)) xs (code / 2) (eqb (code % 2) 1)) (choose Moves (eqb code 11) refl refl))
+  event-part serial xs code =
+      choose Steps (eqb (checks s (length xs) (length serial) code) 0)
+      (choose Steps (s .power) (live-part (figureOf (s .part)) serial xs (code / 2) (eqb (code % 2) 1)) (choose Moves (eqb code 11) refl refl))
       refl
 
 module _ (c : Chip) (code : ℕ) where
   pub next-part : next c code .state .part ≡ c .state .part
   unfolding next
-  next-part = event-part (c .state) (c .array) code
+  next-part = event-part (c .state) (c .serial) (c .array) code
 
   pub next-length : length (next c code .array) ≡ length (c .array)
   unfolding next
-  next-length = written-length (event (c .array) (c .state) code .note) (c .array)
+  next-length = written-length (event (c .serial) (c .array) (c .state) code .note) (c .array)
 
   pub next-sound : sound (c .state) ≡ true → sound (next c code .state) ≡ true
   unfolding next
-  next-sound h = event-sound (c .state) h (c .array) code
+  next-sound h = event-sound (c .state) h (c .serial) (c .array) code
 
 pub run-part : (c : Chip) (codes : List ℕ) → run c codes .state .part ≡ c .state .part
 unfolding run
@@ -102,6 +102,11 @@ pub run-length : (c : Chip) (codes : List ℕ) → length (run c codes .array) �
 unfolding run
 run-length c [] = refl
 run-length c (code ∷ codes) = run-length (next c code) codes ∙ next-length c code
+
+pub run-serial : (c : Chip) (codes : List ℕ) → run c codes .serial ≡ c .serial
+unfolding run next
+run-serial c [] = refl
+run-serial c (code ∷ codes) = run-serial (next c code) codes
 
 pub run-sound : (c : Chip) (codes : List ℕ) → sound (c .state) ≡ true → sound (run c codes .state) ≡ true
 unfolding run

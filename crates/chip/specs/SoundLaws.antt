@@ -29,9 +29,9 @@ module _ (s : State) (h : sound s ≡ true) (on : s .power ≡ true) where
   cs-to true = choose Keeps (csLevel s) h (cs-rise s h on)
   cs-to false = choose Keeps (csLevel s) (cs-fall s h on) h
 
-  sck-to : (xs : List ℕ) (level : Bool) → Keeps (sckTo (figureOf (s .part)) xs s level)
-  sck-to xs true = choose Keeps (s .sck) h (sck-rise s h on)
-  sck-to xs false = choose Keeps (s .sck) (sck-fall s h on xs) h
+  sck-to : (serial xs : List ℕ) (level : Bool) → Keeps (sckTo (figureOf (s .part)) serial xs s level)
+  sck-to serial xs true = choose Keeps (s .sck) h (sck-rise s h on)
+  sck-to serial xs false = choose Keeps (s .sck) (sck-fall s h on serial xs) h
 
   hold-to : (level : Bool) → Answers (holdTo s level)
   unfolding holdFall holdRise
@@ -45,11 +45,11 @@ module _ (s : State) (h : sound s ≡ true) (on : s .power ≡ true) where
   vdd-to true = h
   vdd-to false = rest-sound (s .part) (s .kept) false (good s h .part) (good s h .kept)
 
-  live-sound : (xs : List ℕ) (pin : ℕ) (level : Bool) → Answers (live (figureOf (s .part)) xs s pin level)
+  live-sound : (serial xs : List ℕ) (pin : ℕ) (level : Bool) → Answers (live (figureOf (s .part)) serial xs s pin level)
   unfolding live
-  live-sound xs pin level =
+  live-sound serial xs pin level =
       choose Answers (eqb pin 0) (cs-to level)
-      (choose Answers (eqb pin 1) (sck-to xs level)
+      (choose Answers (eqb pin 1) (sck-to serial xs level)
       (choose Answers (eqb pin 2) (kept-on s h on _ refl refl refl refl)
       (choose Answers (eqb pin 3) (hold-to level)
       (choose Answers (eqb pin 4) (kept-on s h on _ refl refl refl refl)
@@ -60,23 +60,23 @@ module _ (s : State) (h : sound s ≡ true) where
   dark-sound code =
       choose Keeps (eqb code 11) (rest-sound (s .part) (s .kept) true (good s h .part) (good s h .kept)) h
 
-  pub step-sound : (xs : List ℕ) (code : ℕ) → Answers (step (figureOf (s .part)) xs s code)
+  pub step-sound : (serial xs : List ℕ) (code : ℕ) → Answers (step (figureOf (s .part)) serial xs s code)
   unfolding step
-  step-sound xs code = go (s .power) refl
+  step-sound serial xs code = go (s .power) refl
     where
-      go : (t : Bool) → s .power ≡ t → Answers (cond t (live (figureOf (s .part)) xs s (code / 2) (eqb (code % 2) 1)) (dark s code))
-      go true e = live-sound s h e xs (code / 2) (eqb (code % 2) 1)
+      go : (t : Bool) → s .power ≡ t → Answers (cond t (live (figureOf (s .part)) serial xs s (code / 2) (eqb (code % 2) 1)) (dark s code))
+      go true e = live-sound s h e serial xs (code / 2) (eqb (code % 2) 1)
       go false e = dark-sound code
 
   -- accepted or refused, an event leads from a sound state to a sound one
-  pub event-sound : (xs : List ℕ) (code : ℕ) → Sound (event xs s code .state)
+  pub event-sound : (serial xs : List ℕ) (code : ℕ) → Sound (event serial xs s code .state)
   unfolding event
-  event-sound xs code = choose Answers (eqb (checks s (length xs) code) 0) (step-sound xs code) h
+  event-sound serial xs code = choose Answers (eqb (checks s (length xs) (length serial) code) 0) (step-sound serial xs code) h
 
 -- "It passes the state of each accepted call": an accepted event passed check 4, so nothing is asked of the state given
-pub accepted-sound : (xs : List ℕ) (s : State) (code : ℕ) → event xs s code .refusal ≡ 0 → sound (event xs s code .state) ≡ true
-accepted-sound xs s code fine =
-    event-sound s (checks-passed s (length xs) code (accepted-passed xs s code fine) .0) xs code
+pub accepted-sound : (serial xs : List ℕ) (s : State) (code : ℕ) → event serial xs s code .refusal ≡ 0 → sound (event serial xs s code .state) ≡ true
+accepted-sound serial xs s code fine =
+    event-sound s (checks-passed s (length xs) (length serial) code (accepted-passed serial xs s code fine) .0 .0) serial xs code
 
 off-sound : sound (atRest 1 0 false) ≡ true
 unfolding figureOf

@@ -13,7 +13,7 @@ use Rattle.parts.specs.declared.figures.Figure.{Figure}
 use Rattle.stages.specs.Close.{isClosed, drops, afterClose, afterFall}
 use Rattle.stages.specs.Wp.{isUp}
 use Rattle.stages.specs.declared.stage.Stage.{Stage}
-use Rattle.stages.specs.declared.stage.Stage.the-variants.{Closed, Code, Upper, Lower, Ready, ArrayOut, StatusOut, Writing, Keeping, Over, Dummy, IdentOut, Asleep}
+use Rattle.stages.specs.declared.stage.Stage.the-variants.{Closed, Code, Upper, Lower, Ready, ArrayOut, StatusOut, Writing, Keeping, Over, Dummy, IdentOut, SerialOut, Asleep}
 use Rattle.select.specs.declared.rise.Seen.{Seen}
 use Rattle.select.specs.Rise.{rise}
 use Rattle.pins.specs.Edges.{silent, withSck, seenBy, rose, shown, csFall, csRise, sckRise, sckFall, holdFall, holdRise}
@@ -26,12 +26,12 @@ use Rattle.chip.specs.EventLaws.{accepted-steps}
 use Rattle.chip.specs.declared.step.Stepped.{Stepped}
 
 -- the stage after an event that takes no bit: as it was, or a select opened or closed, or the supply was cut, or a fall of SCK
-pub data Unclocked (f : Figure) (xs : List ℕ) (s : State) : Stage → Type 0 where
-  same : Unclocked f xs s (s .stage)
-  opens : Unclocked f xs s (afterFall f (isUp (s .wp)) (s .stage))
-  closes : Unclocked f xs s (afterClose (s .stage))
-  cuts : Unclocked f xs s Closed
-  falls : Unclocked f xs s (shown f xs s)
+pub data Unclocked (f : Figure) (serial xs : List ℕ) (s : State) : Stage → Type 0 where
+  same : Unclocked f serial xs s (s .stage)
+  opens : Unclocked f serial xs s (afterFall f (isUp (s .wp)) (s .stage))
+  closes : Unclocked f serial xs s (afterClose (s .stage))
+  cuts : Unclocked f serial xs s Closed
+  falls : Unclocked f serial xs s (shown f serial xs s)
 
 -- with no select open a rise of SCK leaves the stage
 rise-closed : (f : Figure) (seen : Seen) (stage : Stage) → isClosed stage ≡ true → rise f seen stage .stage ≡ stage
@@ -48,6 +48,7 @@ rise-closed f seen (Keeping wp shift) h = cc
 rise-closed f seen (Over end) h = cc
 rise-closed f seen (Dummy shift at) h = cc
 rise-closed f seen (IdentOut level bit at) h = cc
+rise-closed f seen (SerialOut level bit at) h = cc
 rise-closed f seen Asleep h = refl
 
 -- SCK was low and is high in the next state, with /HOLD high and a select open
@@ -66,12 +67,12 @@ choose-on : {A : Type 0} (P : A → Type 0) (t : Bool) {a b : A} → (t ≡ true
 choose-on P true p q = p refl
 choose-on P false p q = q
 
-module _ (f : Figure) (xs : List ℕ) (s : State) where
-  pub rise-seen : (code : ℕ) → seesRise s code ≡ true → step f xs s code ≡ accepted (rose s (rise f (seenBy s) (s .stage)))
+module _ (f : Figure) (serial xs : List ℕ) (s : State) where
+  pub rise-seen : (code : ℕ) → seesRise s code ≡ true → step f serial xs s code ≡ accepted (rose s (rise f (seenBy s) (s .stage)))
   unfolding seesRise step live sckRise
   rise-seen code h =
-      ap (step f xs s) three
-      ∙ ap (λ (p : Bool). cond p (live f xs s 1 true) (dark s 3)) on
+      ap (step f serial xs s) three
+      ∙ ap (λ (p : Bool). cond p (live f serial xs s 1 true) (dark s 3)) on
       ∙ ap (λ (k : Bool). accepted (cond k (silent s) (sckRise f s))) low
       ∙ ap (λ (k : Bool). accepted (cond k (rose s (rise f (seenBy s) (s .stage))) (silent (withSck s true)))) off
     where
@@ -95,7 +96,7 @@ module _ (f : Figure) (xs : List ℕ) (s : State) where
 
   -- SCK doesn't rise to this state, and no bit is taken
   abbrev Passes : State → Type 0
-  Passes t = ((not (s .sck) && t .sck) ≡ false) × Unclocked f xs s (t .stage)
+  Passes t = ((not (s .sck) && t .sck) ≡ false) × Unclocked f serial xs s (t .stage)
 
   abbrev Moves : Moved → Type 0
   Moves m = Passes (m .state)
@@ -116,7 +117,7 @@ module _ (f : Figure) (xs : List ℕ) (s : State) where
   cs-passes false =
       choose Moves (csLevel s) (choose Passes (holdHigh (s .hold)) (still (s .sck), opens) (still (s .sck), same)) stays
 
-  sck-passes : Moves (sckTo f xs s false)
+  sck-passes : Moves (sckTo f serial xs s false)
   unfolding sckFall
   sck-passes =
       choose Moves (s .sck)
@@ -135,7 +136,7 @@ module _ (f : Figure) (xs : List ℕ) (s : State) where
   vdd-passes true = stays
   vdd-passes false = (never (not (s .sck)), cuts)
 
-  others-pass : (code : ℕ) → eqb code 3 ≡ false → Steps (step f xs s code)
+  others-pass : (code : ℕ) → eqb code 3 ≡ false → Steps (step f serial xs s code)
   unfolding step live
   others-pass code h =
       choose Steps (s .power)
@@ -153,7 +154,7 @@ module _ (f : Figure) (xs : List ℕ) (s : State) where
       three : code / 2 ≡ 1 → code % 2 ≡ 1 → code ≡ 3
       three p q = omega arith
 
-      falls-only : (t : Bool) → eqb (code % 2) 1 ≡ t → eqb (code / 2) 1 ≡ true → Moves (sckTo f xs s t)
+      falls-only : (t : Bool) → eqb (code % 2) 1 ≡ t → eqb (code / 2) 1 ≡ true → Moves (sckTo f serial xs s t)
       falls-only true e p = absurd (eqb-false code 3 h (three (eqb-true _ _ p) (eqb-true _ _ e)))
       falls-only false e p = sck-passes
 
@@ -165,7 +166,7 @@ module _ (f : Figure) (xs : List ℕ) (s : State) where
       (accepted (silent s))
 
   -- "Each seen rise of SCK in an open select", no more and no less
-  pub rise-exact : (code : ℕ) → seesRise s code ≡ seenRise s (step f xs s code .state)
+  pub rise-exact : (code : ℕ) → seesRise s code ≡ seenRise s (step f serial xs s code .state)
   unfolding seesRise step live sckRise
   rise-exact code = go (eqb code 3) refl
     where
@@ -179,9 +180,9 @@ module _ (f : Figure) (xs : List ℕ) (s : State) where
       three true false true false e = refl
       three true false true true e = refl
 
-      go : (t : Bool) → eqb code 3 ≡ t → seesRise s code ≡ seenRise s (step f xs s code .state)
+      go : (t : Bool) → eqb code 3 ≡ t → seesRise s code ≡ seenRise s (step f serial xs s code .state)
       go true e =
-          subst (λ (k : ℕ). seesRise s k ≡ seenRise s (step f xs s k .state)) (sym (eqb-true code 3 e))
+          subst (λ (k : ℕ). seesRise s k ≡ seenRise s (step f serial xs s k .state)) (sym (eqb-true code 3 e))
           (three (s .power) (s .sck) (holdHigh (s .hold)) (isOpen s) refl)
       go false e =
           ap (λ (t : Bool). s .power && holdHigh (s .hold) && isOpen s && not (s .sck) && t) e
@@ -189,20 +190,20 @@ module _ (f : Figure) (xs : List ℕ) (s : State) where
           ∙ sym (ap (λ (t : Bool). t && holdHigh (s .hold) && isOpen s) (others-pass code e .0))
 
   -- where it is none, no bit is taken
-  pub unseen-takes-none : (code : ℕ) → seesRise s code ≡ false → Unclocked f xs s (step f xs s code .state .stage)
+  pub unseen-takes-none : (code : ℕ) → seesRise s code ≡ false → Unclocked f serial xs s (step f serial xs s code .state .stage)
   unfolding seesRise isOpen step live sckRise rise
   unseen-takes-none code = go (eqb code 3) refl
     where
       three :
           (p k h d : Bool) → isClosed (s .stage) ≡ d → (p && h && not d && not k && true) ≡ false
-          → Unclocked f xs s (raised p k h .state .stage)
+          → Unclocked f serial xs s (raised p k h .state .stage)
       three false k h d e n = same
       three true true h d e n = same
       three true false false d e n = same
       three true false true true e n = rw (rise-closed f (seenBy s) (s .stage) e) same
       three true false true false e n = absurd (eqb-false 1 0 refl cc)
 
-      go : (t : Bool) → eqb code 3 ≡ t → seesRise s code ≡ false → Unclocked f xs s (step f xs s code .state .stage)
+      go : (t : Bool) → eqb code 3 ≡ t → seesRise s code ≡ false → Unclocked f serial xs s (step f serial xs s code .state .stage)
       go true e h =
           rw (eqb-true code 3 e)
           (three (s .power) (s .sck) (holdHigh (s .hold)) (isClosed (s .stage)) refl (rw (eqb-true code 3 e) at h))
@@ -210,6 +211,6 @@ module _ (f : Figure) (xs : List ℕ) (s : State) where
 
 -- an accepted event is such a step
 pub event-exact :
-    (xs : List ℕ) (s : State) (code : ℕ) → event xs s code .refusal ≡ 0
-    → seesRise s code ≡ seenRise s (event xs s code .state)
-event-exact xs s code fine = rw (accepted-steps xs s code fine) (rise-exact (figureOf (s .part)) xs s code)
+    (serial xs : List ℕ) (s : State) (code : ℕ) → event serial xs s code .refusal ≡ 0
+    → seesRise s code ≡ seenRise s (event serial xs s code .state)
+event-exact serial xs s code fine = rw (accepted-steps serial xs s code fine) (rise-exact (figureOf (s .part)) serial xs s code)

@@ -4,7 +4,8 @@ ghost use Rattle.chip.specs.Event.{answerOf};
 ghost use Rattle.chip.specs.Loop.{lastStep};
 ghost use Rattle.chip.specs.Promises.{EventPromise};
 use crate::run::Ran;
-use crate::run::run;
+use crate::run::go;
+use crate::run::lend_refusal;
 use pins::state::State;
 use select::notes::Level;
 use select::notes::Note;
@@ -42,12 +43,21 @@ fn answer_of(ran: Ran) -> Answer
     }
 }
 
-// One event on the lent array: a list of one code.
-pub fn event(state: State, array: &mut [u8], code: u64) -> Answer
-    ensures { λ r. ⌜ EventPromise (now (array .entry)) state code r (now (array .exit)) ⌝ }
+// One event on the lent array, with the lent serial number: a list of one code.
+pub fn event(state: State, array: &mut [u8], serial: &[u8], code: u64) -> Answer
+    ensures { λ r. ⌜ EventPromise (now (serial .entry)) (now (array .entry)) state code r (now (array .exit)) ⌝ }
 {
-    let codes = [code];
-    let mut levels = [0u8];
-    let ran = run(state, array, &codes, &mut levels);
-    answer_of(ran)
+    let refusal = lend_refusal(state, array.len(), serial.len());
+    if refusal == 0 {
+        let codes = [code];
+        let mut levels = [0u8];
+        answer_of(go(state, array, serial, &codes, &mut levels))
+    } else {
+        Answer {
+            refusal,
+            so: Level::Released,
+            note: Note::Nothing,
+            state,
+        }
+    }
 }

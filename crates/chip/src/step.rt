@@ -1,4 +1,4 @@
-// The step of one event: what it does where the checks 4, 2 and 5 let it through.
+// The step of one event: what it does where the checks 4, 2, 15 and 5 let it through.
 ghost use mathlib.Core.Bool.{true, false};
 ghost use mathlib.Core.List.{[]};
 ghost use mathlib.Core.Path.{_≡_};
@@ -54,19 +54,19 @@ fn cs_to(state: State, f: Figure, level: bool) -> Moved
     }
 }
 
-fn sck_low(state: State, f: Figure, array: &[u8]) -> Moved
-    ensures { λ r. ⌜ r ≡ sckTo f (now (array .entry)) state false ⌝ }
+fn sck_low(state: State, f: Figure, array: &[u8], serial: &[u8]) -> Moved
+    ensures { λ r. ⌜ r ≡ sckTo f (now (serial .entry)) (now (array .entry)) state false ⌝ }
 {
     if state.sck {
-        state.sck_fall(f, array)
+        state.sck_fall(f, array, serial)
     } else {
         state.silent()
     }
 }
 
-// A rise reads no array.
+// A rise reads nothing that is lent.
 fn sck_high(state: State, f: Figure) -> Moved
-    ensures { λ r. ⌜ r ≡ sckTo f [] state true ⌝ }
+    ensures { λ r. ⌜ r ≡ sckTo f [] [] state true ⌝ }
 {
     if state.sck {
         state.silent()
@@ -155,12 +155,12 @@ fn vdd_to(state: State, level: bool) -> Moved
 }
 
 // An event with power on. By the code and not by pin and level, so that each edge of SCK has one way (docs/SPEED.md).
-fn live(f: Figure, state: State, array: &[u8], code: u8) -> Stepped
-    ensures { λ r. ⌜ r ≡ live f (now (array .entry)) state (code / 2) (eqb (code % 2) 1) ⌝ }
+fn live(f: Figure, state: State, array: &[u8], serial: &[u8], code: u8) -> Stepped
+    ensures { λ r. ⌜ r ≡ live f (now (serial .entry)) (now (array .entry)) state (code / 2) (eqb (code % 2) 1) ⌝ }
 {
     match code {
         0 | 1 => accept(cs_to(state, f, code == 1)),
-        2 => accept(sck_low(state, f, array)),
+        2 => accept(sck_low(state, f, array, serial)),
         3 => accept(sck_high(state, f)),
         4 | 5 => accept(si_to(state, code == 5)),
         6 | 7 => hold_to(state, code == 7),
@@ -180,12 +180,12 @@ fn dark(state: State, code: u8) -> Stepped
     }
 }
 
-// An event that passed the checks 4, 2 and 5. It is pure, and called at one place, the loop over events.
-pub(crate) fn step(f: Figure, state: State, array: &[u8], code: u8) -> Stepped
-    ensures { λ r. ⌜ r ≡ step f (now (array .entry)) state code ⌝ }
+// An event that passed the checks 4, 2, 15 and 5. It is pure, and called at one place, the loop over events.
+pub(crate) fn step(f: Figure, state: State, array: &[u8], serial: &[u8], code: u8) -> Stepped
+    ensures { λ r. ⌜ r ≡ step f (now (serial .entry)) (now (array .entry)) state code ⌝ }
 {
     if state.power {
-        live(f, state, array, code)
+        live(f, state, array, serial, code)
     } else {
         dark(state, code)
     }

@@ -1,20 +1,42 @@
 -- What every rule may rely on in a part's row, whichever part it is. A new row is checked here, once. Assumes nothing.
 use Prim.Native.Nat.{ℕ, zero, suc, _+_, _*_, _<_, _≤_, _-_, _^_}
-use mathlib.Core.Path.{_≡_, refl}
-use mathlib.Core.Bool.{Bool, true, false, _&&_}
+use mathlib.Core.Path.{_≡_, refl, sym, _∙_}
+use mathlib.Core.Bool.{Bool, true, false, cond, _&&_, _||_}
 use mathlib.Core.List.{List, [], _∷_}
 use native.Mathlib.Omega.{arith}
 use borrow.Author.Tests.{eqb-false, leb-true, ltb-true}
-use lib.Dec.{leb, ltb, lit<, lit≤}
+use lib.Dec.{eqb, leb, ltb, lit<, lit≤}
 use lib.ListN.{getD, length}
-use Rattle.parts.specs.Figures.{none, fm25l04, fm25c160, fm25v01, rows, parts, figureOf, isPart}
+use Rattle.parts.specs.Commands.{command}
+use Rattle.parts.specs.Figures.{none, fm25l04, fm25c160, fm25v01, fm25vn01, rows, parts, figureOf, isPart}
 use Rattle.laws.specs.TestLaws.{left, right}
+use Rattle.parts.specs.declared.commands.Command.{Command}
+use Rattle.parts.specs.declared.commands.Command.the-variants.{Wren, Wrdi, Rdsr, Wrsr, Read, Fstrd, Write, Rdid, Snr, Sleep, Other}
+use Rattle.parts.specs.declared.commands.Op.{Op}
 use Rattle.parts.specs.declared.figures.Figure.{Figure}
 
 -- where the address stands: its top bit in the op-code and the rest in one byte, or two bytes
 pub data Header (count top : ℕ) : Type 0 where
   one : (k : ℕ) → count ≡ 1 → top ≡ 2 ^ k → Header count top
   two : count ≡ 2 → top ≡ 0 → Header count top
+
+-- whether one of these op-codes is SNR
+abbrev isSnr : Command → Bool
+isSnr Wren = false
+isSnr Wrdi = false
+isSnr Rdsr = false
+isSnr Wrsr = false
+isSnr Read = false
+isSnr Fstrd = false
+isSnr Write = false
+isSnr Rdid = false
+isSnr Snr = true
+isSnr Sleep = false
+isSnr Other = false
+
+abbrev hasSnr : List Op → Bool
+hasSnr [] = false
+hasSnr (op ∷ ops) = isSnr (op .command) || hasSnr ops
 
 clash : false ≡ true → _≡_ {A = ℕ} 0 1
 clash h = cc
@@ -30,6 +52,8 @@ pub record Fair (f : Figure) : Type 0 where
   pub bits : ℕ
   pub low : f .upper ≡ 2 ^ bits - 1
   pub header : Header (f .«address_bytes») (f .top)
+  -- a part has a serial number exactly if it knows SNR
+  pub numbered : hasSnr (f .ops) ≡ ltb 0 (f .serial)
 
 pub data AllFair : List Figure → Type 0 where
   done : AllFair []
@@ -38,18 +62,22 @@ pub data AllFair : List Figure → Type 0 where
 -- each row; a new one has its line here
 like-part-1 : Fair fm25l04
 like-part-1 =
-    record { mask = lit< tt; pages = refl; top = lit≤ tt; bits = 1; low = refl; header = one 3 refl refl }
+    record { mask = lit< tt; pages = refl; top = lit≤ tt; bits = 1; low = refl; header = one 3 refl refl; numbered = refl }
 
 like-part-3 : Fair fm25c160
 like-part-3 =
-    record { mask = lit< tt; pages = refl; top = lit≤ tt; bits = 3; low = refl; header = two refl refl }
+    record { mask = lit< tt; pages = refl; top = lit≤ tt; bits = 3; low = refl; header = two refl refl; numbered = refl }
 
 like-part-4 : Fair fm25v01
 like-part-4 =
-    record { mask = lit< tt; pages = refl; top = lit≤ tt; bits = 6; low = refl; header = two refl refl }
+    record { mask = lit< tt; pages = refl; top = lit≤ tt; bits = 6; low = refl; header = two refl refl; numbered = refl }
+
+like-part-5 : Fair fm25vn01
+like-part-5 =
+    record { mask = lit< tt; pages = refl; top = lit≤ tt; bits = 6; low = refl; header = two refl refl; numbered = refl }
 
 all-fair : AllFair rows
-all-fair = also like-part-1 (also like-part-1 (also like-part-3 (also like-part-4 done)))
+all-fair = also like-part-1 (also like-part-1 (also like-part-3 (also like-part-4 (also like-part-5 done))))
 
 -- a row that is there
 fair-at : (fs : List Figure) → AllFair fs → (k : ℕ) → k < length fs → Fair (getD fs k none)
@@ -83,7 +111,31 @@ pub largest : (part : ℕ) → figureOf part .size ≤ most
 unfolding figureOf every
 largest part = leb-true (figureOf part .size) most (row (λ f. leb (f .size) most) parts refl refl part)
 
+-- no serial number is longer than the largest array, so that those of a board can be counted
+pub serial-short : (part : ℕ) → figureOf part .serial ≤ most
+unfolding figureOf every
+serial-short part = leb-true (figureOf part .serial) most (row (λ f. leb (f .serial) most) parts refl refl part)
+
 -- "Parts 1 and 2 behave alike.": every rule reads a part's row, and theirs is one
 pub parts-alike : figureOf 1 ≡ figureOf 2
 unfolding figureOf
 parts-alike = refl
+
+-- where an op-code is SNR, the part has a serial number
+either : (t : Bool) → (t || true) ≡ true
+either true = refl
+either false = refl
+
+snr-told : (ops : List Op) (code : ℕ) → command ops code ≡ Snr → hasSnr ops ≡ true
+unfolding command
+snr-told [] code h = cc
+snr-told (op ∷ ops) code h = go (eqb code (op .code)) (snr-told ops code) h
+  where
+    go :
+        (t : Bool) → (command ops code ≡ Snr → hasSnr ops ≡ true) → cond t (op .command) (command ops code) ≡ Snr
+        → (isSnr (op .command) || hasSnr ops) ≡ true
+    go true later e = rw e
+    go false later e = rw (later e) (either (isSnr (op .command)))
+
+pub snr-numbered : (f : Figure) → Fair f → (code : ℕ) → command (f .ops) code ≡ Snr → ltb 0 (f .serial) ≡ true
+snr-numbered f fair code h = sym (fair .numbered) ∙ snr-told (f .ops) code h

@@ -1,20 +1,22 @@
--- "Three SPI F-RAM parts by Ramtron, seen at their pins", the table of document 01, and a fourth (document 02, Wish 3). Assumes
--- nothing.
+-- "Three SPI F-RAM parts by Ramtron, seen at their pins", the table of document 01, a fourth (document 02, Wish 3) and a fifth
+-- (Wish 8). Assumes nothing.
 -- What a row says: size, the array's bytes; kept, the status bits that are kept; latch, the status bit that shows the
 -- latch; address_bytes, how many follow the op-code; upper, the upper address bits that are not ignored; top, the bit of
 -- READ's and WRITE's op-code that is the top address bit, 0 for none; guards_array, whether /WP low holds back the array;
 -- enable, the kept bit (WPEN) that must be set for /WP low to hold back the status byte, 0 where none need be; bp0 and
--- bp1, the block bits BP0 and BP1; dummy, how many dummy bytes follow FSTRD's address, 1 or none; wp_at_fall, whether /WP at the fall of /CS counts for a status byte and not at the byte's first rise;
--- ident, the bytes that RDID shows, zeros where the part has none; ops, the op-codes with their commands.
+-- bp1, the block bits BP0 and BP1; dummy, how many dummy bytes follow FSTRD's address, 1 or none; wp_at_fall, whether /WP at the
+-- fall of /CS counts for a status byte and not at the byte's first rise; ident, the bytes that RDID shows, zeros where the part has
+-- none; serial, how many bytes the serial number has that SNR shows, 0 where the part has none; ops, the op-codes with their
+-- commands.
 use Prim.Native.Nat.{ℕ}
-use mathlib.Core.Bool.{Bool, true, false, _&&_}
+use mathlib.Core.Bool.{Bool, true, false, _&&_, _||_}
 use mathlib.Core.List.{List, [], _∷_}
 use lib.ListN.{getD, length, replicate}
 use lib.Bits.{bitAnd}
 use lib.Dec.{eqb, ltb}
 use Rattle.parts.specs.declared.commands.Op.{Op}
 use Rattle.parts.specs.declared.commands.Command.{Command}
-use Rattle.parts.specs.declared.commands.Command.the-variants.{Wren, Wrdi, Rdsr, Wrsr, Read, Fstrd, Write, Rdid, Sleep, Other}
+use Rattle.parts.specs.declared.commands.Command.the-variants.{Wren, Wrdi, Rdsr, Wrsr, Read, Fstrd, Write, Rdid, Snr, Sleep, Other}
 use Rattle.parts.specs.declared.figures.Figure.{Figure}
 
 abbrev op : ℕ → Command → Op
@@ -30,6 +32,10 @@ filler = op 0 Other
 
 abbrev pub identBytes : ℕ
 identBytes = 9
+
+-- "a serial number of eight bytes"
+abbrev pub serialBytes : ℕ
+serialBytes = 8
 
 abbrev unnamed : List ℕ
 unnamed = replicate identBytes 0
@@ -52,7 +58,8 @@ fm25l04 =
       dummy = 0;
       «wp_at_fall» = false;
       ident = unnamed;
-      ops = common (op 0x03 Read ∷ op 0x0B Read ∷ op 0x02 Write ∷ op 0x0A Write ∷ filler ∷ []);
+      serial = 0;
+      ops = common (op 0x03 Read ∷ op 0x0B Read ∷ op 0x02 Write ∷ op 0x0A Write ∷ filler ∷ filler ∷ []);
     }
 
 -- "2 | FM25L04B | 512 | as part 1 | 0Ch". "Parts 1 and 2 behave alike."
@@ -77,16 +84,18 @@ fm25c160 =
       dummy = 0;
       «wp_at_fall» = false;
       ident = unnamed;
-      ops = common (op 0x03 Read ∷ op 0x02 Write ∷ filler ∷ filler ∷ filler ∷ []);
+      serial = 0;
+      ops = common (op 0x03 Read ∷ op 0x02 Write ∷ filler ∷ filler ∷ filler ∷ filler ∷ []);
     }
 
 -- "It has 16,384 bytes, two-byte address with the upper two bits ignored, ten op-codes (source document 004). FSTRD 0Bh takes a
 --  dummy byte after the address. RDID 9Fh shows the device bytes that 004 prints". "The status layout and the protected ranges
 --  are 004's. /W guards the status byte only, with WPEN set, and its level at the fall of /S counts for the whole select. SLEEP
---  B9h takes effect at the rise of /S". "C3h does nothing here." 004, Table 3: "3000h to 3FFFh (upper ¼)", "2000h to 3FFFh (upper
+--  B9h takes effect at the rise of /S". 004, Table 3: "3000h to 3FFFh (upper ¼)", "2000h to 3FFFh (upper
 --  ½)". Table 6: "six bytes of the continuation code 7Fh followed by the single byte C2h", then "21h" and a byte of zeros.
-abbrev pub fm25v01 : Figure
-fm25v01 =
+-- Parts 4 and 5 differ in what C3h does and in the serial number, and in nothing else.
+abbrev fm25v : Op → ℕ → Figure
+fm25v snr serial =
     record {
       size = 16384;
       kept = 0x8C;
@@ -101,16 +110,25 @@ fm25v01 =
       dummy = 1;
       «wp_at_fall» = true;
       ident = 0x7F ∷ 0x7F ∷ 0x7F ∷ 0x7F ∷ 0x7F ∷ 0x7F ∷ 0xC2 ∷ 0x21 ∷ 0x00 ∷ [];
-      ops = common (op 0x03 Read ∷ op 0x0B Fstrd ∷ op 0x02 Write ∷ op 0xB9 Sleep ∷ op 0x9F Rdid ∷ []);
+      serial = serial;
+      ops = common (op 0x03 Read ∷ op 0x0B Fstrd ∷ op 0x02 Write ∷ op 0xB9 Sleep ∷ op 0x9F Rdid ∷ snr ∷ []);
     }
+
+-- "C3h does nothing here."
+abbrev pub fm25v01 : Figure
+fm25v01 = fm25v filler 0
+
+-- "This part is part 4 with C3h showing a serial number of eight bytes". 004, Table 1: "SNR Read S/N 1100 0011b".
+abbrev pub fm25vn01 : Figure
+fm25vn01 = fm25v (op 0xC3 Snr) serialBytes
 
 -- a number that is no part's: no rule reads its row, since 1 or 4 is given before
 abbrev pub none : Figure
 none = fm25l04
 
--- the rows of parts 1 to 4
+-- the rows of parts 1 to 5
 abbrev pub rows : List Figure
-rows = fm25l04 ∷ fm25l04b ∷ fm25c160 ∷ fm25v01 ∷ []
+rows = fm25l04 ∷ fm25l04b ∷ fm25c160 ∷ fm25v01 ∷ fm25vn01 ∷ []
 
 abbrev pub parts : List Figure
 parts = none ∷ rows
@@ -119,13 +137,21 @@ parts = none ∷ rows
 unfoldable pub figureOf : ℕ → Figure
 figureOf part = getD parts part none
 
--- "1 | part not 1 to 3"; "1 now begins at part 5"
+-- "1 | part not 1 to 3"; "1 now begins at part 6"
 abbrev pub isPart : ℕ → Bool
 isPart part = ltb 0 part && ltb part (length parts)
 
 -- "2 | array length is not the part's"; "2 knows 16,384"
 abbrev pub fitsPart : ℕ → ℕ → Bool
 fitsPart part len = eqb len (figureOf part .size)
+
+-- 15, "for part 5 only ..: serial not eight bytes long": where a part has no serial number, any length will do
+abbrev pub takesSerial : Figure → ℕ → Bool
+takesSerial f len = eqb (f .serial) 0 || eqb len (f .serial)
+
+-- and by the part's number
+abbrev pub fitsSerial : ℕ → ℕ → Bool
+fitsSerial part len = takesSerial (figureOf part) len
 
 -- "3 | kept bits outside the mask"
 abbrev pub underMask : Figure → ℕ → Bool

@@ -21,6 +21,8 @@ printed =
     ∷ (0x800 ∷ 0x600 ∷ 0x400 ∷ 0x000 ∷ [])
     -- 004: "None", "3000h to 3FFFh (upper ¼)", "2000h to 3FFFh (upper ½)", "0000h to 3FFFh (all)"
     ∷ (0x4000 ∷ 0x3000 ∷ 0x2000 ∷ 0x0000 ∷ [])
+    -- 004 again: one sheet for parts 4 and 5
+    ∷ (0x4000 ∷ 0x3000 ∷ 0x2000 ∷ 0x0000 ∷ [])
     ∷ []
 
 pub as-printed : map begins rows ≡ printed

@@ -11,6 +11,7 @@ pub enum Command {
     Fstrd,
     Write,
     Rdid,
+    Snr,
     Sleep,
     // Does nothing.
     Other,
@@ -23,7 +24,7 @@ pub struct Op {
 }
 
 // How many op-codes a row has room for; the rest is filled with ones that do nothing.
-pub const OPS: usize = 9;
+pub const OPS: usize = 10;
 
 // The command that an op-code names, by a part's list.
 pub fn decode(ops: [Op; OPS], code: u8) -> Command

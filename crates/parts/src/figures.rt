@@ -1,12 +1,15 @@
 // The one table of the parts' figures. Every rule reads it; no part's number is tested anywhere else.
 ghost use mathlib.Core.Path.{_≡_};
-ghost use Rattle.parts.specs.Figures.{figureOf, fitsPart, isPart};
+ghost use Rattle.parts.specs.Figures.{figureOf, fitsPart, isPart, takesSerial};
 use crate::commands::Command;
 use crate::commands::OPS;
 use crate::commands::Op;
 
 // How many identification bytes there are; zeros where a part has no RDID.
 pub const IDENT: usize = 9;
+
+// How many bytes a serial number has: "a serial number of eight bytes".
+pub const SERIAL: usize = 8;
 
 pub struct Figure {
     // Bytes of the array.
@@ -33,6 +36,8 @@ pub struct Figure {
     pub wp_at_fall: bool,
     // The identification bytes that RDID shows.
     pub ident: [u8; IDENT],
+    // Bytes of the serial number that SNR shows; 0: the part has none.
+    pub serial: usize,
     // Its op-codes with their commands.
     pub ops: [Op; OPS],
 }
@@ -94,6 +99,11 @@ const RDID: Op = Op {
     command: Command::Rdid,
 };
 
+const SNR: Op = Op {
+    code: 0xC3,
+    command: Command::Snr,
+};
+
 const FILLER: Op = Op {
     code: 0x00,
     command: Command::Other,
@@ -113,6 +123,7 @@ const FM25L04: Figure = Figure {
     dummy: 0,
     wp_at_fall: false,
     ident: [0; IDENT],
+    serial: 0,
     ops: [
         WREN,
         WRDI,
@@ -122,6 +133,7 @@ const FM25L04: Figure = Figure {
         READ_TOP,
         WRITE,
         WRITE_TOP,
+        FILLER,
         FILLER,
     ],
 };
@@ -143,7 +155,19 @@ const FM25C160: Figure = Figure {
     dummy: 0,
     wp_at_fall: false,
     ident: [0; IDENT],
-    ops: [WREN, WRDI, RDSR, WRSR, READ, WRITE, FILLER, FILLER, FILLER],
+    serial: 0,
+    ops: [
+        WREN,
+        WRDI,
+        RDSR,
+        WRSR,
+        READ,
+        WRITE,
+        FILLER,
+        FILLER,
+        FILLER,
+        FILLER,
+    ],
 };
 
 const FM25V01: Figure = Figure {
@@ -160,16 +184,35 @@ const FM25V01: Figure = Figure {
     dummy: 1,
     wp_at_fall: true,
     ident: [0x7F, 0x7F, 0x7F, 0x7F, 0x7F, 0x7F, 0xC2, 0x21, 0x00],
-    ops: [WREN, WRDI, RDSR, WRSR, READ, FSTRD, WRITE, SLEEP, RDID],
+    serial: 0,
+    ops: [
+        WREN,
+        WRDI,
+        RDSR,
+        WRSR,
+        READ,
+        FSTRD,
+        WRITE,
+        SLEEP,
+        RDID,
+        FILLER,
+    ],
+};
+
+// "This part is part 4 with C3h showing a serial number of eight bytes".
+const FM25VN01: Figure = Figure {
+    serial: SERIAL,
+    ops: [WREN, WRDI, RDSR, WRSR, READ, FSTRD, WRITE, SLEEP, RDID, SNR],
+    ..FM25V01
 };
 
 // A number that is no part's: no rule reads its row, since 1 or 4 is given before.
 const NO_PART: Figure = FM25L04;
 
 // How many rows there are; row 0 is no part's.
-const ROWS: usize = 5;
+const ROWS: usize = 6;
 
-pub const PARTS: [Figure; ROWS] = [NO_PART, FM25L04, FM25L04B, FM25C160, FM25V01];
+pub const PARTS: [Figure; ROWS] = [NO_PART, FM25L04, FM25L04B, FM25C160, FM25V01, FM25VN01];
 
 // The largest array's bytes, for whoever lends one to a part that is not known yet (`largest`, specs/FigureLaws).
 pub const LARGEST: usize = 16384;
@@ -190,6 +233,7 @@ pub fn figure_of(part: u64) -> Figure
         2 => FM25L04B,
         3 => FM25C160,
         4 => FM25V01,
+        5 => FM25VN01,
         _ => NO_PART,
     }
 }
@@ -200,4 +244,11 @@ pub fn fits_part(part: u64, len: usize) -> bool
 {
     let f = figure_of(part);
     len == f.size
+}
+
+// Whether a serial number of this length is the part's: any, where the part has none.
+pub fn takes_serial(f: Figure, len: usize) -> bool
+    ensures { λ r. ⌜ r ≡ takesSerial f len ⌝ }
+{
+    (f.serial == 0) | (len == f.serial)
 }

@@ -95,12 +95,12 @@ unfoldable pub sckRise : Figure → State → Moved
 sckRise f s = cond (holdHigh (s .hold)) (rose s (rise f (seenBy s) (s .stage))) (silent (withSck s true))
 
 -- "Output moves on a seen fall of SCK"
-abbrev pub shown : Figure → List ℕ → State → Stage
-shown f xs s = fall f xs (statusByte f (s .kept) (s .latch)) (s .stage)
+abbrev pub shown : Figure → List ℕ → List ℕ → State → Stage
+shown f serial xs s = fall f serial xs (statusByte f (s .kept) (s .latch)) (s .stage)
 
-unfoldable pub sckFall : Figure → List ℕ → State → Moved
-sckFall f xs s =
-    silent (cond (holdHigh (s .hold)) (withStage (withSck s false) (s .latch) (shown f xs s)) (withSck s false))
+unfoldable pub sckFall : Figure → List ℕ → List ℕ → State → Moved
+sckFall f serial xs s =
+    silent (cond (holdHigh (s .hold)) (withStage (withSck s false) (s .latch) (shown f serial xs s)) (withSck s false))
 
 -- "only their levels kept"
 unfoldable pub holdFall : State → Moved

@@ -1,4 +1,4 @@
--- "The soundness test .. fails exactly a state with a part not 1 to 3 (Wish 3: to 4), kept bits outside the mask, an address not below
+-- "The soundness test .. fails exactly a state with a part not 1 to 3 (now to 5), kept bits outside the mask, an address not below
 -- the part's size, a partial byte or bit count that no number of clocks gives, or power off in another form than the off
 -- state." Assumes nothing.
 use mathlib.Core.Bool.{Bool, not, _&&_, _||_}

@@ -23,7 +23,7 @@ use Rattle.pins.specs.Edges.{seenBy, csFall, csRise, sckRise, sckFall}
 use Rattle.pins.specs.Levels.{atRest, holdHigh}
 use Rattle.pins.specs.Sound.{rests, soundBy, sound}
 use Rattle.stages.specs.declared.stage.Stage.{Stage}
-use Rattle.stages.specs.declared.stage.Stage.the-variants.{Closed, Code, Upper, Lower, Ready, ArrayOut, StatusOut, Writing, Keeping, Over, Dummy, IdentOut, Asleep}
+use Rattle.stages.specs.declared.stage.Stage.the-variants.{Closed, Code, Upper, Lower, Ready, ArrayOut, StatusOut, Writing, Keeping, Over, Dummy, IdentOut, SerialOut, Asleep}
 use Rattle.pins.specs.declared.hold.Hold.{Hold}
 use Rattle.pins.specs.declared.hold.Hold.the-variants.{High, LowCsLow, LowCsHigh}
 use Rattle.pins.specs.declared.state.State.{State}
@@ -76,6 +76,7 @@ closed-is (Keeping wp shift) h = cc
 closed-is (Over end) h = cc
 closed-is (Dummy shift at) h = cc
 closed-is (IdentOut level bit at) h = cc
+closed-is (SerialOut level bit at) h = cc
 closed-is Asleep h = cc
 
 rest-of :
@@ -159,12 +160,12 @@ module _ (s : State) (h : sound s ≡ true) (on : s .power ≡ true) where
       }))
       (kept-on _ refl refl refl refl)
 
-  pub sck-fall : (xs : List ℕ) → Keeps (sckFall (figureOf (s .part)) xs s)
+  pub sck-fall : (serial xs : List ℕ) → Keeps (sckFall (figureOf (s .part)) serial xs s)
   unfolding sckFall
-  sck-fall xs =
+  sck-fall serial xs =
       choose Sound (holdHigh (s .hold))
       (staged _ refl refl refl
-      (fall-sound (figureOf (s .part)) (fair (s .part) (g .part)) xs (statusByte (figureOf (s .part)) (s .kept) (s .latch)) (s .stage) (g .stage)))
+      (fall-sound (figureOf (s .part)) (fair (s .part) (g .part)) serial xs (statusByte (figureOf (s .part)) (s .kept) (s .latch)) (s .stage) (g .stage)))
       (kept-on _ refl refl refl refl)
 
 -- by the row of its part, whoever has read it

@@ -136,14 +136,14 @@ impl State {
     }
 
     // A select may show a bit.
-    pub fn sck_fall(self, f: Figure, array: &[u8]) -> Moved
-        ensures { λ r. ⌜ r ≡ sckFall f (now (array .entry)) self ⌝ }
+    pub fn sck_fall(self, f: Figure, array: &[u8], serial: &[u8]) -> Moved
+        ensures { λ r. ⌜ r ≡ sckFall f (now (serial .entry)) (now (array .entry)) self ⌝ }
     {
         let hold = self.hold;
         let stage = self.stage;
         if hold_high(hold) {
             let status = status_byte(f, self.kept, self.latch);
-            let next = fall(f, array, status, stage);
+            let next = fall(f, array, serial, status, stage);
             let state = State {
                 sck: false,
                 stage: next,

@@ -6,7 +6,7 @@ use Rattle.parts.specs.Commands.{command}
 use Rattle.parts.specs.Guards.{mayStore, mayKeep}
 use Rattle.parts.specs.declared.figures.Figure.{Figure}
 use Rattle.parts.specs.declared.commands.Command.{Command}
-use Rattle.parts.specs.declared.commands.Command.the-variants.{Wren, Wrdi, Rdsr, Wrsr, Read, Fstrd, Write, Rdid, Sleep, Other}
+use Rattle.parts.specs.declared.commands.Command.the-variants.{Wren, Wrdi, Rdsr, Wrsr, Read, Fstrd, Write, Rdid, Snr, Sleep, Other}
 use Rattle.parts.specs.declared.guards.Verdict as verdict
 use Rattle.stages.specs.Bits.{noBits, takeBit}
 use Rattle.stages.specs.Wp.{isUp, cameUp, byteWp, byteCame}
@@ -21,9 +21,9 @@ use Rattle.stages.specs.declared.stage.End.the-variants.{Quiet, Drops, Sleeps}
 use Rattle.stages.specs.declared.stage.Line.{Line}
 use Rattle.stages.specs.declared.stage.Purpose.{Purpose}
 use Rattle.stages.specs.declared.stage.Purpose.the-variants.{ToRead, ToReadFast, ToWrite}
-use Rattle.stages.specs.declared.stage.What.the-variants.{Array, Status, Ident}
+use Rattle.stages.specs.declared.stage.What.the-variants.{Array, Status, Ident, Serial}
 use Rattle.stages.specs.declared.stage.Stage.{Stage}
-use Rattle.stages.specs.declared.stage.Stage.the-variants.{Closed, Code, Upper, Lower, Ready, ArrayOut, StatusOut, Writing, Keeping, Over, Dummy, IdentOut, Asleep}
+use Rattle.stages.specs.declared.stage.Stage.the-variants.{Closed, Code, Upper, Lower, Ready, ArrayOut, StatusOut, Writing, Keeping, Over, Dummy, IdentOut, SerialOut, Asleep}
 use Rattle.select.specs.declared.rise.Seen.{Seen}
 use Rattle.select.specs.declared.rise.Risen.{Risen}
 
@@ -46,6 +46,7 @@ byCommand f seen wp code Read = quiet seen (afterCode f ToRead code)
 byCommand f seen wp code Fstrd = quiet seen (afterCode f ToReadFast code)
 byCommand f seen wp code Write = quiet seen (afterCode f ToWrite code)
 byCommand f seen wp code Rdid = quiet seen (Ready Ident 0)
+byCommand f seen wp code Snr = quiet seen (Ready Serial 0)
 byCommand f seen wp code Sleep = quiet seen (Over Sleeps)
 byCommand f seen wp code Other = quiet seen (Over Quiet)
 
@@ -133,4 +134,5 @@ rise f seen (Keeping wp shift) = keepRise f seen wp shift
 rise f seen (Over end) = quiet seen (Over end)
 rise f seen (Dummy shift at) = dummyRise seen shift at
 rise f seen (IdentOut level bit at) = quiet seen (IdentOut level bit at)
+rise f seen (SerialOut level bit at) = quiet seen (SerialOut level bit at)
 rise f seen Asleep = quiet seen Asleep

@@ -9,18 +9,18 @@ use lib.Bits.{bitAnd, and-le-r}
 use lib.Dec.{eqb, ltb}
 use Rattle.parts.specs.Commands.{command}
 use Rattle.parts.specs.Figures.{identBytes}
-use Rattle.parts.specs.FigureLaws.{Fair}
+use Rattle.parts.specs.FigureLaws.{Fair, snr-numbered}
 use Rattle.laws.specs.MaskLaws.{under-twice}
 use Rattle.laws.specs.TestLaws.{both, left, right}
 use Rattle.parts.specs.declared.figures.Figure.{Figure}
 use Rattle.parts.specs.declared.commands.Command.{Command}
-use Rattle.parts.specs.declared.commands.Command.the-variants.{Wren, Wrdi, Rdsr, Wrsr, Read, Fstrd, Write, Rdid, Sleep, Other}
+use Rattle.parts.specs.declared.commands.Command.the-variants.{Wren, Wrdi, Rdsr, Wrsr, Read, Fstrd, Write, Rdid, Snr, Sleep, Other}
 use Rattle.parts.specs.Guards.{mayKeep}
 use Rattle.parts.specs.declared.guards.Verdict as verdict
 use Rattle.stages.specs.Address.{upperPage, nextAddress}
 use Rattle.stages.specs.Bits.{takeBit}
 use Rattle.stages.specs.Wp.{isUp, cameUp, byteWp, byteCame}
-use Rattle.select.specs.Fall.{showArray, showStatus, showIdent, nextIdent, fall}
+use Rattle.select.specs.Fall.{showArray, showStatus, showIdent, nextIdent, showSerial, nextSerial, fall}
 use Rattle.select.specs.Rise.{byCommand, opened, codeTaken, codeRise, upperTaken, upperRise, lowerTaken, lowerRise, dummyTaken, dummyRise}
 use Rattle.select.specs.Rise.{writeTaken, writeRise, keptBy, keepTaken, keepRise, rise}
 use Rattle.stages.specs.SoundLaws.{within, SoundTaken, take-sound, next-sound, after-code, after-address, DataTaken, data-sound}
@@ -30,9 +30,9 @@ use Rattle.stages.specs.declared.stage.End.the-variants.{Quiet}
 use Rattle.stages.specs.declared.stage.Line.{Line}
 use Rattle.stages.specs.declared.stage.Purpose.{Purpose}
 use Rattle.stages.specs.declared.stage.Purpose.the-variants.{ToRead, ToReadFast, ToWrite}
-use Rattle.stages.specs.declared.stage.What.the-variants.{Array, Status, Ident}
+use Rattle.stages.specs.declared.stage.What.the-variants.{Array, Status, Ident, Serial}
 use Rattle.stages.specs.declared.stage.Stage.{Stage}
-use Rattle.stages.specs.declared.stage.Stage.the-variants.{Closed, Code, Upper, Lower, Ready, ArrayOut, StatusOut, Writing, Keeping, Over, Dummy, IdentOut, Asleep}
+use Rattle.stages.specs.declared.stage.Stage.the-variants.{Closed, Code, Upper, Lower, Ready, ArrayOut, StatusOut, Writing, Keeping, Over, Dummy, IdentOut, SerialOut, Asleep}
 use Rattle.select.specs.declared.rise.Seen.{Seen}
 use Rattle.stages.specs.declared.bits.Taken.{Taken}
 use Rattle.stages.specs.declared.bits.Taken.the-variants.{Part, Whole}
@@ -53,6 +53,7 @@ module _ (f : Figure) (fair : Fair f) where
   begun-masked seen wp code Write = refl
   begun-masked seen wp code Fstrd = refl
   begun-masked seen wp code Rdid = refl
+  begun-masked seen wp code Snr = refl
   begun-masked seen wp code Sleep = refl
   begun-masked seen wp code Other = refl
 
@@ -97,25 +98,28 @@ module _ (f : Figure) (fair : Fair f) where
   rise-masked seen (Over end) h = h
   rise-masked seen (Dummy shift at) h = rw (dummy-masked seen at (takeBit shift (seen .si))) h
   rise-masked seen (IdentOut level bit at) h = h
+  rise-masked seen (SerialOut level bit at) h = h
   rise-masked seen Asleep h = h
 
-  begun-sound : (seen : Seen) (wp : Line) (code : ℕ) (c : Command) → soundFall f (isUp wp) ≡ true → soundStage f (byCommand f seen wp code c .stage) ≡ true
+  begun-sound : (seen : Seen) (wp : Line) (code : ℕ) (c : Command) → command (f .ops) code ≡ c → soundFall f (isUp wp) ≡ true
+      → soundStage f (byCommand f seen wp code c .stage) ≡ true
   unfolding soundStage
-  begun-sound seen wp code Wren up = refl
-  begun-sound seen wp code Wrdi up = refl
-  begun-sound seen wp code Rdsr up = refl
-  begun-sound seen wp code Wrsr up = rw up
-  begun-sound seen wp code Read up = after-code f fair ToRead code
-  begun-sound seen wp code Fstrd up = after-code f fair ToReadFast code
-  begun-sound seen wp code Write up = after-code f fair ToWrite code
-  begun-sound seen wp code Rdid up = refl
-  begun-sound seen wp code Sleep up = refl
-  begun-sound seen wp code Other up = refl
+  begun-sound seen wp code Wren e up = refl
+  begun-sound seen wp code Wrdi e up = refl
+  begun-sound seen wp code Rdsr e up = refl
+  begun-sound seen wp code Wrsr e up = rw up
+  begun-sound seen wp code Read e up = after-code f fair ToRead code
+  begun-sound seen wp code Fstrd e up = after-code f fair ToReadFast code
+  begun-sound seen wp code Write e up = after-code f fair ToWrite code
+  begun-sound seen wp code Rdid e up = refl
+  begun-sound seen wp code Snr e up = snr-numbered f fair code e
+  begun-sound seen wp code Sleep e up = refl
+  begun-sound seen wp code Other e up = refl
 
   code-sound : (seen : Seen) (wp : Line) (t : Taken) → soundFall f (isUp wp) ≡ true → SoundTaken t → soundStage f (codeTaken f seen wp t .stage) ≡ true
   unfolding soundStage opened
   code-sound seen wp (Part more) up h = both h up
-  code-sound seen wp (Whole code) up h = begun-sound seen wp code (command (f .ops) code) up
+  code-sound seen wp (Whole code) up h = begun-sound seen wp code (command (f .ops) code) refl up
 
   upper-sound : (seen : Seen) (purpose : Purpose) (t : Taken) → eqb (f .«address_bytes») 2 ≡ true → SoundTaken t
       → soundStage f (upperTaken f seen purpose t .stage) ≡ true
@@ -172,36 +176,38 @@ module _ (f : Figure) (fair : Fair f) where
   rise-sound seen (Dummy shift at) h =
       dummy-sound seen at (takeBit shift (seen .si)) (left _ _ h) (take-sound shift (seen .si) (right (eqb (f .dummy) 1 && ltb at (f .size)) _ h))
   rise-sound seen (IdentOut level bit at) h = h
+  rise-sound seen (SerialOut level bit at) h = h
   rise-sound seen Asleep h = refl
 
   -- one bit less
   lower-bit : (bit : ℕ) → ltb bit 8 ≡ true → ltb (bit - 1) 8 ≡ true
   lower-bit bit h = lt-ltb (bit - 1) 8 (omega (arith, ltb-true bit 8 h))
 
-  pub fall-sound : (xs : List ℕ) (status : ℕ) (stage : Stage) → soundStage f stage ≡ true → soundStage f (fall f xs status stage) ≡ true
-  unfolding soundStage fall showArray showStatus showIdent nextIdent
-  fall-sound xs status Closed h = h
-  fall-sound xs status (Code wp shift) h = h
-  fall-sound xs status (Upper purpose shift) h = h
-  fall-sound xs status (Lower purpose shift page) h = h
-  fall-sound xs status (Ready Array at) h = both h refl
-  fall-sound xs status (Ready Status at) h = refl
-  fall-sound xs status (Ready Ident at) h = both h refl
-  fall-sound xs status (ArrayOut level bit at) h = go (eqb bit 0)
+  pub fall-sound : (serial xs : List ℕ) (status : ℕ) (stage : Stage) → soundStage f stage ≡ true → soundStage f (fall f serial xs status stage) ≡ true
+  unfolding soundStage fall showArray showStatus showIdent nextIdent showSerial nextSerial
+  fall-sound serial xs status Closed h = h
+  fall-sound serial xs status (Code wp shift) h = h
+  fall-sound serial xs status (Upper purpose shift) h = h
+  fall-sound serial xs status (Lower purpose shift page) h = h
+  fall-sound serial xs status (Ready Array at) h = both h refl
+  fall-sound serial xs status (Ready Status at) h = refl
+  fall-sound serial xs status (Ready Ident at) h = both h refl
+  fall-sound serial xs status (Ready Serial at) h = both h refl
+  fall-sound serial xs status (ArrayOut level bit at) h = go (eqb bit 0)
     where
       go : (t : Bool) → soundStage f (cond t (showArray xs (nextAddress f at) 7) (showArray xs at (bit - 1))) ≡ true
       go true = both (lt-ltb _ _ (next-sound f fair at)) refl
       go false = both (left (ltb at (f .size)) (ltb bit 8) h) (lower-bit bit (right (ltb at (f .size)) (ltb bit 8) h))
-  fall-sound xs status (StatusOut level bit) h = go (eqb bit 0)
+  fall-sound serial xs status (StatusOut level bit) h = go (eqb bit 0)
     where
       go : (t : Bool) → soundStage f (cond t (Over Quiet) (showStatus status (bit - 1))) ≡ true
       go true = refl
       go false = lower-bit bit h
-  fall-sound xs status (Writing came shift at) h = h
-  fall-sound xs status (Keeping wp shift) h = h
-  fall-sound xs status (Over end) h = h
-  fall-sound xs status (Dummy shift at) h = h
-  fall-sound xs status (IdentOut level bit at) h = go (eqb bit 0)
+  fall-sound serial xs status (Writing came shift at) h = h
+  fall-sound serial xs status (Keeping wp shift) h = h
+  fall-sound serial xs status (Over end) h = h
+  fall-sound serial xs status (Dummy shift at) h = h
+  fall-sound serial xs status (IdentOut level bit at) h = go (eqb bit 0)
     where
       next : (t : Bool) → ltb at (identBytes - 1) ≡ t → soundStage f (cond t (showIdent f (at + 1) 7) (Over Quiet)) ≡ true
       next true e = both (lt-ltb (at + 1) identBytes (omega (arith, ltb-true at (identBytes - 1) e))) refl
@@ -210,4 +216,13 @@ module _ (f : Figure) (fair : Fair f) where
       go : (t : Bool) → soundStage f (cond t (nextIdent f at) (showIdent f at (bit - 1))) ≡ true
       go true = next (ltb at (identBytes - 1)) refl
       go false = both (left (ltb at identBytes) (ltb bit 8) h) (lower-bit bit (right (ltb at identBytes) (ltb bit 8) h))
-  fall-sound xs status Asleep h = refl
+  fall-sound serial xs status (SerialOut level bit at) h = go (eqb bit 0)
+    where
+      next : (t : Bool) → ltb (at + 1) (f .serial) ≡ t → soundStage f (cond t (showSerial serial (at + 1) 7) (Over Quiet)) ≡ true
+      next true e = both e refl
+      next false e = refl
+
+      go : (t : Bool) → soundStage f (cond t (nextSerial f serial at) (showSerial serial at (bit - 1))) ≡ true
+      go true = next (ltb (at + 1) (f .serial)) refl
+      go false = both (left (ltb at (f .serial)) (ltb bit 8) h) (lower-bit bit (right (ltb at (f .serial)) (ltb bit 8) h))
+  fall-sound serial xs status Asleep h = refl

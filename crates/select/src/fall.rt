@@ -1,7 +1,7 @@
 // A seen fall of SCK in a select: output moves.
 ghost use mathlib.Core.Path.{_≡_};
 ghost use lib.ListN.{getD};
-ghost use Rattle.select.specs.Fall.{statusByte, showArray, showStatus, showIdent, nextIdent, fall, stageLevel};
+ghost use Rattle.select.specs.Fall.{statusByte, showArray, showStatus, showIdent, nextIdent, showSerial, nextSerial, fall, stageLevel};
 use crate::notes::Level;
 use parts::figures::Figure;
 use parts::figures::IDENT;
@@ -64,15 +64,38 @@ fn next_ident(f: Figure, at: usize) -> Stage
     }
 }
 
+// One bit of the serial number, as it is lent to this call, put on SO.
+fn show_serial(serial: &[u8], at: usize, bit: u16) -> Stage
+    ensures { λ r. ⌜ r ≡ showSerial (now (serial .entry)) at bit ⌝ }
+{
+    let byte = byte_at(serial, at);
+    let level = bit_of(byte, bit);
+    Stage::SerialOut { level, bit, at }
+}
+
+// Past a byte of the serial number: the next, or nothing more.
+fn next_serial(f: Figure, serial: &[u8], at: usize) -> Stage
+    ensures { λ r. ⌜ r ≡ nextSerial f (now (serial .entry)) at ⌝ }
+{
+    if at < f.serial {
+        let next = at + 1;
+        if next < f.serial {
+            return show_serial(serial, next, 7);
+        }
+    }
+    Stage::Over { end: End::Quiet }
+}
+
 // "Output moves on a seen fall of SCK once the header is whole." Every other stage stays.
-pub fn fall(f: Figure, array: &[u8], status: u8, stage: Stage) -> Stage
-    ensures { λ r. ⌜ r ≡ fall f (now (array .entry)) status stage ⌝ }
+pub fn fall(f: Figure, array: &[u8], serial: &[u8], status: u8, stage: Stage) -> Stage
+    ensures { λ r. ⌜ r ≡ fall f (now (serial .entry)) (now (array .entry)) status stage ⌝ }
 {
     match stage {
         Stage::Ready { what, at } => match what {
             What::Array => show_array(array, at, 7),
             What::Status => show_status(status, 7),
             What::Ident => show_ident(f, at, 7),
+            What::Serial => show_serial(serial, at, 7),
         },
         Stage::ArrayOut { bit, at, .. } => {
             if bit == 0 {
@@ -93,6 +116,13 @@ pub fn fall(f: Figure, array: &[u8], status: u8, stage: Stage) -> Stage
                 next_ident(f, at)
             } else {
                 show_ident(f, at, bit - 1)
+            }
+        }
+        Stage::SerialOut { bit, at, .. } => {
+            if bit == 0 {
+                next_serial(f, serial, at)
+            } else {
+                show_serial(serial, at, bit - 1)
             }
         }
         _ => stage,
@@ -120,6 +150,10 @@ pub fn stage_level(stage: Stage) -> Level
             Line::Up => Level::High,
         },
         Stage::IdentOut { level, .. } => match level {
+            Line::Down => Level::Low,
+            Line::Up => Level::High,
+        },
+        Stage::SerialOut { level, .. } => match level {
             Line::Down => Level::Low,
             Line::Up => Level::High,
         },

@@ -91,6 +91,13 @@ fn open(f: Figure, seen: Seen, wp: Line, code: u8) -> Risen
                 at: 0,
             },
         ),
+        Command::Snr => to_stage(
+            seen,
+            Stage::Ready {
+                what: What::Serial,
+                at: 0,
+            },
+        ),
         Command::Sleep => to_stage(seen, Stage::Over { end: End::Sleeps }),
         Command::Other => to_stage(seen, Stage::Over { end: End::Quiet }),
     }
@@ -251,6 +258,7 @@ pub fn rise(f: Figure, seen: Seen, stage: Stage) -> Risen
         Stage::ArrayOut { .. } => to_stage(seen, stage),
         Stage::StatusOut { .. } => to_stage(seen, stage),
         Stage::IdentOut { .. } => to_stage(seen, stage),
+        Stage::SerialOut { .. } => to_stage(seen, stage),
         Stage::Writing { came, shift, at } => write_rise(f, seen, came, shift, at),
         Stage::Keeping { wp, shift } => keep_rise(f, seen, wp, shift),
         Stage::Over { .. } => to_stage(seen, stage),

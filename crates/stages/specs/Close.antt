@@ -7,7 +7,7 @@ use Rattle.stages.specs.declared.stage.Came.the-variants.{NoByte, NoByte
 use Rattle.stages.specs.declared.stage.End.{End}
 use Rattle.stages.specs.declared.stage.End.the-variants.{Quiet, Drops, Sleeps}
 use Rattle.stages.specs.declared.stage.Stage.{Stage}
-use Rattle.stages.specs.declared.stage.Stage.the-variants.{Closed, Asleep, Code, Upper, Lower, Dummy, Ready, ArrayOut, StatusOut, IdentOut, Writing, Keeping, Over}
+use Rattle.stages.specs.declared.stage.Stage.the-variants.{Closed, Asleep, Code, Upper, Lower, Dummy, Ready, ArrayOut, StatusOut, IdentOut, SerialOut, Writing, Keeping, Over}
 
 -- no select is open
 abbrev pub isClosed : Stage → Bool
@@ -21,6 +21,7 @@ isClosed (Ready what at) = false
 isClosed (ArrayOut level bit at) = false
 isClosed (StatusOut level bit) = false
 isClosed (IdentOut level bit at) = false
+isClosed (SerialOut level bit at) = false
 isClosed (Writing came shift at) = false
 isClosed (Keeping wp shift) = false
 isClosed (Over end) = false
@@ -37,6 +38,7 @@ isAsleep (Ready what at) = false
 isAsleep (ArrayOut level bit at) = false
 isAsleep (StatusOut level bit) = false
 isAsleep (IdentOut level bit at) = false
+isAsleep (SerialOut level bit at) = false
 isAsleep (Writing came shift at) = false
 isAsleep (Keeping wp shift) = false
 isAsleep (Over end) = false
@@ -53,6 +55,7 @@ endOf (Ready what at) = Quiet
 endOf (ArrayOut level bit at) = Quiet
 endOf (StatusOut level bit) = Quiet
 endOf (IdentOut level bit at) = Quiet
+endOf (SerialOut level bit at) = Quiet
 endOf (Writing NoByte shift at) = Quiet
 endOf (Writing NoByteLow shift at) = Quiet
 endOf (Writing Bytes shift at) = Drops

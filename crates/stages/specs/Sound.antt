@@ -8,9 +8,9 @@ use Rattle.parts.specs.declared.figures.Figure.{Figure}
 use Rattle.stages.specs.Bits.{noBits}
 use Rattle.stages.specs.Wp.{isUp, cameUp}
 use Rattle.stages.specs.declared.stage.What.{What}
-use Rattle.stages.specs.declared.stage.What.the-variants.{Array, Status, Ident}
+use Rattle.stages.specs.declared.stage.What.the-variants.{Array, Status, Ident, Serial}
 use Rattle.stages.specs.declared.stage.Stage.{Stage}
-use Rattle.stages.specs.declared.stage.Stage.the-variants.{Closed, Asleep, Code, Upper, Lower, Dummy, Ready, ArrayOut, StatusOut, IdentOut, Writing, Keeping, Over}
+use Rattle.stages.specs.declared.stage.Stage.the-variants.{Closed, Asleep, Code, Upper, Lower, Dummy, Ready, ArrayOut, StatusOut, IdentOut, SerialOut, Writing, Keeping, Over}
 
 -- under eight bits after the 1: eight would be a whole byte
 abbrev pub soundShift : ℕ → Bool
@@ -29,6 +29,7 @@ abbrev pub shownLength : Figure → What → ℕ
 shownLength f Array = f .size
 shownLength f Status = 1
 shownLength f Ident = identBytes
+shownLength f Serial = f .serial
 
 -- an upper address byte comes only where the part has two, a dummy byte only where it has one
 unfoldable pub soundStage : Figure → Stage → Bool
@@ -42,6 +43,7 @@ soundStage f (Ready what at) = ltb at (shownLength f what)
 soundStage f (ArrayOut level bit at) = ltb at (f .size) && ltb bit 8
 soundStage f (StatusOut level bit) = ltb bit 8
 soundStage f (IdentOut level bit at) = ltb at identBytes && ltb bit 8
+soundStage f (SerialOut level bit at) = ltb at (f .serial) && ltb bit 8
 soundStage f (Writing came shift at) = ltb at (f .size) && soundShift shift && soundWp (cameUp came) shift
 soundStage f (Keeping wp shift) = soundShift shift && (ltb noBits shift || soundFall f (isUp wp))
 soundStage f (Over end) = true

@@ -24,6 +24,7 @@ fn shown_length(f: Figure, what: What) -> usize
         What::Array => f.size,
         What::Status => 1,
         What::Ident => IDENT,
+        What::Serial => f.serial,
     }
 }
 
@@ -42,6 +43,7 @@ pub fn sound_stage(f: Figure, stage: Stage) -> bool
         Stage::ArrayOut { bit, at, .. } => (at < f.size) & (bit < 8),
         Stage::StatusOut { bit, .. } => bit < 8,
         Stage::IdentOut { bit, at, .. } => (at < IDENT) & (bit < 8),
+        Stage::SerialOut { bit, at, .. } => (at < f.serial) & (bit < 8),
         Stage::Writing { came, shift, at } => (at < f.size)
             & sound_shift(shift)
             & ((NO_BITS < shift) | came_up(came)),

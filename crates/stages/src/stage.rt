@@ -21,6 +21,7 @@ pub enum What {
     Array,
     Status,
     Ident,
+    Serial,
 }
 
 // What of a WRITE's data came: nothing whole yet, or at least one whole byte; and, in one byte with it, whether /WP was low at
@@ -99,6 +100,12 @@ pub enum Stage {
     },
     // A bit of the identification stands on SO.
     IdentOut {
+        level: Line,
+        bit: u16,
+        at: usize,
+    },
+    // A bit of the serial number stands on SO.
+    SerialOut {
         level: Line,
         bit: u16,
         at: usize,

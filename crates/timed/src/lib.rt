@@ -1,4 +1,5 @@
-// The two event calls as C sees them, for speed/: from power-up with kept bits 0, over the lent array.
+// The two event calls as C sees them, for speed/: from power-up with kept bits 0, over the lent array and with the lent
+// serial number.
 use chip::event::event;
 use chip::list::events;
 use chip::power::power_up;
@@ -14,9 +15,15 @@ fn told(refusal: u8, count: usize) -> u64 {
 
 // A list by the list call: 256 times the count of events accepted, and the refusal.
 #[no_mangle]
-pub extern "C" fn by_list(part: u64, codes: &[u64], array: &mut [u8], levels: &mut [u8]) -> u64 {
+pub extern "C" fn by_list(
+    part: u64,
+    codes: &[u64],
+    array: &mut [u8],
+    serial: &[u8],
+    levels: &mut [u8],
+) -> u64 {
     let powered = power_up(part, 0, array);
-    let listed = events(powered.state, array, codes, levels);
+    let listed = events(powered.state, array, serial, codes, levels);
     told(listed.refusal, listed.count)
 }
 
@@ -30,7 +37,13 @@ fn number(level: Level) -> u8 {
 
 // The same by single calls.
 #[no_mangle]
-pub extern "C" fn by_events(part: u64, codes: &[u64], array: &mut [u8], levels: &mut [u8]) -> u64 {
+pub extern "C" fn by_events(
+    part: u64,
+    codes: &[u64],
+    array: &mut [u8],
+    serial: &[u8],
+    levels: &mut [u8],
+) -> u64 {
     let powered = power_up(part, 0, array);
     let mut state = powered.state;
     let mut i = 0;
@@ -39,7 +52,7 @@ pub extern "C" fn by_events(part: u64, codes: &[u64], array: &mut [u8], levels: 
         if levels.len() <= i {
             return told(12, i);
         }
-        let answer = event(state, array, codes[i]);
+        let answer = event(state, array, serial, codes[i]);
         if answer.refusal != 0 {
             return told(answer.refusal, i);
         }

@@ -17,9 +17,9 @@ use Rattle.stages.specs.declared.stage.Line.the-variants.{Down, Up}
 use Rattle.stages.specs.declared.stage.Purpose.{Purpose}
 use Rattle.stages.specs.declared.stage.Purpose.the-variants.{ToRead, ToReadFast, ToWrite}
 use Rattle.stages.specs.declared.stage.Stage.{Stage}
-use Rattle.stages.specs.declared.stage.Stage.the-variants.{Closed, Code, Upper, Lower, Ready, ArrayOut, StatusOut, Writing, Keeping, Over, Dummy, IdentOut, Asleep}
+use Rattle.stages.specs.declared.stage.Stage.the-variants.{Closed, Code, Upper, Lower, Ready, ArrayOut, StatusOut, Writing, Keeping, Over, Dummy, IdentOut, SerialOut, Asleep}
 use Rattle.stages.specs.declared.stage.What.{What}
-use Rattle.stages.specs.declared.stage.What.the-variants.{Array, Status, Ident}
+use Rattle.stages.specs.declared.stage.What.the-variants.{Array, Status, Ident, Serial}
 use Rattle.select.specs.Notes.{NoteNumbers, levelNumber, noteNumbers}
 use Rattle.select.specs.declared.notes.Note.{Note}
 use Rattle.pins.specs.Edges.{withSi, withWp, withStage}
@@ -112,7 +112,7 @@ answerThen s so code a r =
 abbrev pub toldOf : Chip → ℕ → List ℕ → Told
 toldOf c so [] = record { refusals = []; notes = []; levels = []; so = so; chip = c }
 toldOf c so (code ∷ codes) =
-    let a = event (c .array) (c .state) code in
+    let a = event (c .serial) (c .array) (c .state) code in
     answerThen (c .state) so code a (toldOf (answered c a) (levelNumber (a .so)) codes)
 
 -- how the two are compared
@@ -143,6 +143,7 @@ abbrev pub whatNumber : What → ℕ
 whatNumber Array = 0
 whatNumber Status = 1
 whatNumber Ident = 2
+whatNumber Serial = 3
 
 abbrev pub purposeNumber : Purpose → ℕ
 purposeNumber ToRead = 0
@@ -175,6 +176,7 @@ stageNumbers (Over Sleeps) = 11 ∷ []
 stageNumbers (Dummy shift at) = 12 ∷ shift ∷ at ∷ []
 stageNumbers (IdentOut level bit at) = 13 ∷ lineNumber level ∷ bit ∷ at ∷ []
 stageNumbers Asleep = 14 ∷ []
+stageNumbers (SerialOut level bit at) = 15 ∷ lineNumber level ∷ bit ∷ at ∷ []
 
 abbrev pub holdNumber : Hold → ℕ
 holdNumber High = 0
@@ -211,13 +213,17 @@ ends e r =
 abbrev pub lent : ℕ → List ℕ
 lent part = replicate (figureOf part .size) 0xEE
 
+-- the serial number that is lent in every example; parts 1 to 4 do not show it. Its last byte is the check byte of the others.
+abbrev pub ownSerial : List ℕ
+ownSerial = 0x12 ∷ 0x34 ∷ 0x9A ∷ 0x00 ∷ 0xFF ∷ 0x5A ∷ 0x81 ∷ 0x38 ∷ []
+
 -- the old call's fill and the power-up are accepted, and the example ends as it should
 abbrev pub holds : Example → Bool
 holds e =
     let xs = filled (e .part) fresh (lent (e .part)) in
     eqb (fillRefusal (e .part) (figureOf (e .part) .size)) 0
     && eqb (powerUp (e .part) (e .kept) xs .refusal) 0
-    && ends e (toldOf (fromPowerUp (e .part) (e .kept) xs) 2 (e .events))
+    && ends e (toldOf (fromPowerUp (e .part) (e .kept) xs ownSerial) 2 (e .events))
 
 abbrev pub allHold : List Example → Bool
 allHold [] = true

@@ -7,11 +7,11 @@ use Rattle.timed.proofs.by_events.Statement.{statement}
 use Rattle.timed.proofs.by_events.Tie as tie
 
 abbrev Inv-loop : tie.InvT-loop
-Inv-loop part codes array₀ levels₀ state₀ i₀ array levels state i =
+Inv-loop part codes array₀ serial levels₀ state₀ i₀ array levels state i =
     (i ≤ length codes) × (length array ≡ length array₀) × (length levels ≡ length levels₀)
 
 abbrev μ-loop : tie.MeasureT-loop
-μ-loop part codes array₀ levels₀ state₀ i₀ array levels state i = length codes - i
+μ-loop part codes array₀ serial levels₀ state₀ i₀ array levels state i = length codes - i
 
 loop-holds : tie.Need-loop-holds Inv-loop μ-loop
 loop-holds c = (zero-le, refl, refl)

@@ -17,31 +17,31 @@ returns-2 c = simp (c .accept2 .ensures, c .before .sck-high .ensures, c .before
 returns-3 : tie.Need-returns-3
 unfolding live
 returns-3 c =
-    let code = c .before .before .before .before .before .args .code in
+    let code = c .before .before .before .before .before .before .args .code in
     simp (c .accept3 .ensures, c .before .cs-to .ensures, pin-of code 0 (omega arith) (omega arith), level-of code 0 (omega arith) (omega arith))
 
 returns-4 : tie.Need-returns-4
 unfolding live
 returns-4 c =
-    let code = c .before .before .before .before .before .before .args .code in
+    let code = c .before .before .before .before .before .before .before .args .code in
     simp (c .accept4 .ensures, c .before .si-to .ensures, pin-of code 2 (omega arith) (omega arith), level-of code 2 (omega arith) (omega arith))
 
 returns-5 : tie.Need-returns-5
 unfolding live
 returns-5 c =
-    let code = c .before .before .before .before .before .before .args .code in
+    let code = c .before .before .before .before .before .before .before .args .code in
     simp (c .hold-to .ensures, pin-of code 3 (omega arith) (omega arith), level-of code 3 (omega arith) (omega arith))
 
 returns-6 : tie.Need-returns-6
 unfolding live
 returns-6 c =
-    let code = c .before .before .before .before .before .before .before .before .args .code in
+    let code = c .before .before .before .before .before .before .before .before .before .args .code in
     simp (c .accept5 .ensures, c .before .wp-to .ensures, pin-of code 4 (omega arith) (omega arith), level-of code 4 (omega arith) (omega arith))
 
 returns-7 : tie.Need-returns-7
 unfolding live
 returns-7 c =
-    let code = c .before .before .before .before .before .before .before .before .args .code in
+    let code = c .before .before .before .before .before .before .before .before .before .args .code in
     simp (
       c .accept6 .ensures,
       c .before .vdd-to .ensures,

@@ -15,6 +15,12 @@ returns-12 c = simp (c .enum-told12 .given .1, c .before .before .before .stage3
 returns-13 : tie.Need-returns-13
 returns-13 c = simp (c .enum-told13 .given .1, c .before .before .before .stage3 .given .1)
 
+returns-14 : tie.Need-returns-14
+returns-14 c = simp (c .enum-told14 .given .1, c .before .before .before .stage4 .given .1)
+
+returns-15 : tie.Need-returns-15
+returns-15 c = simp (c .enum-told15 .given .1, c .before .before .before .stage4 .given .1)
+
 pub stage-level-spec : {M : Type 1} → statement M
 stage-level-spec =
     tie.close
@@ -24,5 +30,6 @@ stage-level-spec =
     (λ c. search needs) (λ c. search needs) (λ c. search needs) (λ c. search needs) (λ c. search needs)
     (λ c. search needs) (λ c. search needs) (λ c. search needs) (λ c. search needs) (λ c. search needs)
     (λ c. search needs) (λ c. search needs) (λ c. search needs) (λ c. search needs) (λ c. search needs)
-    (λ c. search needs) returns-8 returns-9 (λ c. search needs) (λ c. search needs) returns-12 returns-13
-    (λ c. search needs) (λ c. search needs) (λ c. search needs))
+    (λ c. search needs) (λ c. search needs) (λ c. search needs) (λ c. search needs) returns-8 returns-9
+    (λ c. search needs) (λ c. search needs) returns-12 returns-13 returns-14 returns-15 (λ c. search needs)
+    (λ c. search needs) (λ c. search needs))

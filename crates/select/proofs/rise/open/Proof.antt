@@ -44,6 +44,10 @@ returns-10 : tie.Need-returns-10
 unfolding opened
 returns-10 c = simp (c .to-stage8 .ensures, ← c .before .before .before .decode .ensures, c .before .enum-told10 .given .1)
 
+returns-11 : tie.Need-returns-11
+unfolding opened
+returns-11 c = simp (c .to-stage9 .ensures, ← c .before .before .before .decode .ensures, c .before .enum-told11 .given .1)
+
 pub open-spec : {M : Type 1} → statement M
 open-spec =
     tie.close
@@ -52,5 +56,5 @@ open-spec =
     (λ c. search needs) (λ c κs. search needs) (λ c. search needs) (λ c κs. search needs) (λ c κs. search needs)
     (λ c. search needs) (λ c κs. search needs) (λ c κs. search needs) (λ c. search needs) (λ c κs. search needs)
     (λ c κs. search needs) (λ c. search needs) (λ c κs. search needs) (λ c. search needs) (λ c κs. search needs)
-    (λ c. search needs) (λ c κs. search needs) returns returns-2 returns-3 returns-4 returns-5 returns-6 returns-7
-    returns-8 returns-9 returns-10)
+    (λ c. search needs) (λ c κs. search needs) (λ c. search needs) (λ c κs. search needs) returns returns-2 returns-3
+    returns-4 returns-5 returns-6 returns-7 returns-8 returns-9 returns-10 returns-11)

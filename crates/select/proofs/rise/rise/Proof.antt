@@ -46,15 +46,19 @@ returns-10 c = simp (c .to-stage6 .ensures, c .before .enum-told6 .given .1)
 
 returns-11 : tie.Need-returns-11
 unfolding rise
-returns-11 c = simp (c .write-rise .ensures, c .before .before .stage5 .given .1)
+returns-11 c = simp (c .to-stage7 .ensures, c .before .enum-told7 .given .1)
 
 returns-12 : tie.Need-returns-12
 unfolding rise
-returns-12 c = simp (c .keep-rise .ensures, c .before .before .stage6 .given .1)
+returns-12 c = simp (c .write-rise .ensures, c .before .before .stage5 .given .1)
 
 returns-13 : tie.Need-returns-13
 unfolding rise
-returns-13 c = simp (c .to-stage7 .ensures, c .before .enum-told7 .given .1)
+returns-13 c = simp (c .keep-rise .ensures, c .before .before .stage6 .given .1)
+
+returns-14 : tie.Need-returns-14
+unfolding rise
+returns-14 c = simp (c .to-stage8 .ensures, c .before .enum-told8 .given .1)
 
 pub rise-spec : {M : Type 1} → statement M
 rise-spec =
@@ -65,5 +69,5 @@ rise-spec =
     (λ c. search needs) (λ c κs. search needs) (λ c. search needs) (λ c κs. search needs) (λ c. search needs)
     (λ c κs. search needs) (λ c. search needs) (λ c κs. search needs) (λ c. search needs) (λ c κs. search needs)
     (λ c. search needs) (λ c κs. search needs) (λ c. search needs) (λ c κs. search needs) (λ c. search needs)
-    (λ c κs. search needs) returns returns-2 returns-3 returns-4 returns-5 returns-6 returns-7 returns-8 returns-9
-    returns-10 returns-11 returns-12 returns-13)
+    (λ c κs. search needs) (λ c. search needs) (λ c κs. search needs) returns returns-2 returns-3 returns-4 returns-5
+    returns-6 returns-7 returns-8 returns-9 returns-10 returns-11 returns-12 returns-13 returns-14)

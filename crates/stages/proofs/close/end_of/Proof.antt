@@ -23,8 +23,8 @@ returns-4 c = simp (c .enum-told4 .given .1, c .before .before .before .stage .g
 
 returns-6 : tie.Need-returns-6
 returns-6 c =
-    arm enum (0 ∷ 1 ∷ 3 ∷ 4 ∷ 5 ∷ 6 ∷ 7 ∷ 8 ∷ 10 ∷ 11 ∷ 12 ∷ []) (c .before .args .stage) (c .match .keys3) (λ s. Quiet ≡ endOf s)
-    (λ v. refl) (λ v. refl) (λ v. refl) (λ v. refl) (λ v. refl) (λ v. refl) (λ v. refl) (λ v. refl) (λ v. refl) (λ v. refl) (λ v. refl)
+    arm enum (0 ∷ 1 ∷ 3 ∷ 4 ∷ 5 ∷ 6 ∷ 7 ∷ 8 ∷ 10 ∷ 11 ∷ 12 ∷ 13 ∷ []) (c .before .args .stage) (c .match .keys3) (λ s. Quiet ≡ endOf s)
+    (λ v. refl) (λ v. refl) (λ v. refl) (λ v. refl) (λ v. refl) (λ v. refl) (λ v. refl) (λ v. refl) (λ v. refl) (λ v. refl) (λ v. refl) (λ v. refl)
 
 pub end-of-spec : {M : Type 1} → statement M
 end-of-spec =

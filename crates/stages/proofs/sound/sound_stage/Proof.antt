@@ -1,3 +1,4 @@
+-- Case by case, as the definition goes.
 use Rattle.stages.specs.Sound.{soundStage}
 use borrow.Author.Needs.{needs}
 use Rattle.stages.proofs.sound.sound_stage.Statement.{statement}
@@ -45,15 +46,19 @@ returns-10 c = simp (c .before .stage8 .given .1)
 
 returns-11 : tie.Need-returns-11
 unfolding soundStage
-returns-11 c = simp (c .came-up .ensures, c .before .sound-shift5 .ensures, c .before .before .before .before .stage9 .given .1)
+returns-11 c = simp (c .before .before .stage9 .given .1)
 
 returns-12 : tie.Need-returns-12
 unfolding soundStage
-returns-12 c = simp (c .before .is-up2 .ensures, c .before .before .sound-shift6 .ensures, c .before .before .before .before .stage10 .given .1)
+returns-12 c = simp (c .came-up .ensures, c .before .sound-shift5 .ensures, c .before .before .before .before .stage10 .given .1)
 
 returns-13 : tie.Need-returns-13
 unfolding soundStage
-returns-13 c = simp (c .enum-told3 .given .1)
+returns-13 c = simp (c .before .is-up2 .ensures, c .before .before .sound-shift6 .ensures, c .before .before .before .before .stage11 .given .1)
+
+returns-14 : tie.Need-returns-14
+unfolding soundStage
+returns-14 c = simp (c .enum-told3 .given .1)
 
 pub sound-stage-spec : {M : Type 1} → statement M
 sound-stage-spec =
@@ -62,7 +67,7 @@ sound-stage-spec =
     (λ c. search needs) (λ c. search needs) (λ c. search needs) (λ c κs. search needs) (λ c κs. search needs)
     (λ c. search needs) (λ c κs. search needs) (λ c. search needs) (λ c. search needs) (λ c. search needs)
     (λ c κs. search needs) (λ c. search needs) (λ c κs. search needs) (λ c. search needs) (λ c κs. search needs)
-    (λ c. search needs) (λ c. search needs) (λ c. search needs) (λ c. search needs) (λ c κs. search needs)
-    (λ c κs. search needs) (λ c. search needs) (λ c κs. search needs) (λ c κs. search needs) (λ c. search needs) returns
-    returns-2 returns-3 returns-4 returns-5 returns-6 returns-7 returns-8 returns-9 returns-10 returns-11 returns-12
-    returns-13)
+    (λ c. search needs) (λ c. search needs) (λ c. search needs) (λ c. search needs) (λ c. search needs)
+    (λ c κs. search needs) (λ c κs. search needs) (λ c. search needs) (λ c κs. search needs) (λ c κs. search needs)
+    (λ c. search needs) returns returns-2 returns-3 returns-4 returns-5 returns-6 returns-7 returns-8 returns-9
+    returns-10 returns-11 returns-12 returns-13 returns-14)

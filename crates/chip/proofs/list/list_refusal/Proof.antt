@@ -1,9 +1,9 @@
--- What is refused of the state and the array comes first.
+-- What is refused of the state and what is lent with it comes first.
 use borrow.Author.Tests.{eq-eqb, ne-eqb, lt-ltb, le-ltb}
 use Rattle.chip.specs.List.{listRefusal}
 use borrow.Author.Needs.{needs}
-use Rattle.chip.proofs.run.list_refusal.Statement.{statement}
-use Rattle.chip.proofs.run.list_refusal.Tie as tie
+use Rattle.chip.proofs.list.list_refusal.Statement.{statement}
+use Rattle.chip.proofs.list.list_refusal.Tie as tie
 
 returns : tie.Need-returns
 unfolding listRefusal
