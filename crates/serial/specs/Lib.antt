@@ -1,0 +1,9 @@
+pub mod Division
+pub mod Table
+pub mod Check
+pub mod Promises
+pub mod Outcomes
+pub mod Examples
+pub mod TableLaws
+pub mod DivisionLaws
+pub mod CheckLaws
