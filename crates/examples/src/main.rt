@@ -5,9 +5,11 @@
 // A line of the input is a comment, `# ..`; a title, `== ..`, which is printed; or a letter and hex numbers, for each of
 // which the letter is done in turn:
 //   k, l, b   the kept bits of a power-up, the length of the array that is lent, the fill byte, from here on
+//   s         the length of the serial number that is lent, from here on
 //   u, f, F   power-up of this part; the fill of the array for this part, with no fill byte and with one
 //   v, e      this event, with nothing printed; this event
 //   w, r      the lender writes this byte at address 0; the byte at this address
+//   n         the lender writes this byte as the serial number's first
 //   S         the state in an op-code of which these bits came, with the 1 before them
 use chip::event::event;
 use chip::power::fill;
@@ -28,36 +30,39 @@ struct Desk {
     number: u64,
     kept: u64,
     len: usize,
+    serial: usize,
     byte: u8,
     chip: State,
 }
 
 fn main() {
     let mut text = [0u8; 16384];
-    let mut array = [0u8; 2560];
+    let mut array = [0u8; 16640];
+    let mut serial = [0u8; 16];
     let n = io::read_full(STDIN_FILENO, &mut text);
-    calls(&text[..n], &mut array);
+    calls(&text[..n], &mut array, &mut serial);
 }
 
-fn calls(text: &[u8], array: &mut [u8]) {
+fn calls(text: &[u8], array: &mut [u8], serial: &mut [u8]) {
     let mut desk = Desk {
         letter: 0,
         digits: false,
         number: 0,
         kept: 0,
         len: 512,
+        serial: 0,
         byte: 0,
         chip: State::at_rest(1, 0, false),
     };
     let mut i = 0;
     while i < text.len() {
-        desk = take(desk, array, text[i]);
+        desk = take(desk, array, serial, text[i]);
         i += 1;
     }
 }
 
 // After one more byte of the input.
-fn take(desk: Desk, array: &mut [u8], b: u8) -> Desk {
+fn take(desk: Desk, array: &mut [u8], serial: &mut [u8], b: u8) -> Desk {
     let letter = if desk.letter == 0 { b } else { desk.letter };
     if letter == b'=' {
         say(&[b]);
@@ -77,7 +82,7 @@ fn take(desk: Desk, array: &mut [u8], b: u8) -> Desk {
             ..desk
         };
     }
-    let after = lend(desk, array);
+    let after = lend(desk, array, serial);
     Desk {
         letter: next,
         digits: false,
@@ -95,16 +100,20 @@ fn digit(b: u8) -> u64 {
     }
 }
 
-// At a number's end: its call, over as many bytes of the array as are lent.
-fn lend(desk: Desk, array: &mut [u8]) -> Desk {
-    if desk.len <= array.len() {
-        return call(desk, &mut array[..desk.len], desk.number);
+// At a number's end: its call, over as many bytes of the array and of the serial number as are lent.
+fn lend(desk: Desk, array: &mut [u8], serial: &mut [u8]) -> Desk {
+    let len = desk.len;
+    let own = desk.serial;
+    if len <= array.len() {
+        if own <= serial.len() {
+            return call(desk, &mut array[..len], &mut serial[..own], desk.number);
+        }
     }
     desk
 }
 
 // A letter's call with one number, if there was a digit.
-fn call(desk: Desk, array: &mut [u8], n: u64) -> Desk {
+fn call(desk: Desk, array: &mut [u8], serial: &mut [u8], n: u64) -> Desk {
     if !desk.digits {
         return desk;
     }
@@ -115,14 +124,20 @@ fn call(desk: Desk, array: &mut [u8], n: u64) -> Desk {
             len: n as usize,
             ..desk
         },
+        b's' => Desk {
+            serial: n as usize,
+            ..desk
+        },
         b'b' => Desk {
             byte: (n % 256) as u8,
             ..desk
         },
         b'w' => {
-            if 0 < array.len() {
-                array[0] = (n % 256) as u8;
-            }
+            put_first(array, n);
+            desk
+        }
+        b'n' => {
+            put_first(serial, n);
             desk
         }
         b'r' => {
@@ -138,23 +153,30 @@ fn call(desk: Desk, array: &mut [u8], n: u64) -> Desk {
             desk
         }
         _ => Desk {
-            chip: move_chip(desk, array, n),
+            chip: move_chip(desk, array, serial, n),
             ..desk
         },
     }
 }
 
+// The lender writes the first byte of a slice.
+fn put_first(slice: &mut [u8], n: u64) {
+    if 0 < slice.len() {
+        slice[0] = (n % 256) as u8;
+    }
+}
+
 // A letter that moves the chip, or puts it into another state.
-fn move_chip(desk: Desk, array: &mut [u8], n: u64) -> State {
+fn move_chip(desk: Desk, array: &mut [u8], serial: &[u8], n: u64) -> State {
     let chip = desk.chip;
     let letter = desk.letter;
     match letter {
         b'u' => tell_power_up(array, n, desk.kept),
         b'v' => {
-            let answer = event(chip, array, n);
+            let answer = event(chip, array, serial, n);
             answer.state
         }
-        b'e' => tell_event(chip, array, n),
+        b'e' => tell_event(chip, array, serial, n),
         b'S' => State {
             stage: Stage::Code {
                 wp: Line::Up,
@@ -200,8 +222,8 @@ fn say_note(note: Note) {
 }
 
 // A line for an event, and the state after it.
-fn tell_event(chip: State, array: &mut [u8], code: u64) -> State {
-    let answer = event(chip, array, code);
+fn tell_event(chip: State, array: &mut [u8], serial: &[u8], code: u64) -> State {
+    let answer = event(chip, array, serial, code);
     let so = answer.so;
     let note = answer.note;
     say_number(b"event ", code);

@@ -7,7 +7,7 @@ use lib.Dec.{eqb}
 use Rattle.parts.specs.Commands.{command}
 use Rattle.parts.specs.declared.figures.Figure.{Figure}
 use Rattle.parts.specs.declared.commands.Command.{Command}
-use Rattle.parts.specs.declared.commands.Command.the-variants.{Wren, Wrdi, Rdsr, Wrsr, Read, Fstrd, Write, Rdid, Sleep, Other}
+use Rattle.parts.specs.declared.commands.Command.the-variants.{Wren, Wrdi, Rdsr, Wrsr, Read, Fstrd, Write, Rdid, Snr, Sleep, Other}
 use Rattle.history.specs.Wire.{Bit}
 
 -- a whole byte: its value, and the level of /WP that it came with
@@ -70,6 +70,7 @@ readAs f fell code bs Read = idles
 readAs f fell code bs Fstrd = idles
 readAs f fell code bs Write = stores (address f code bs) (drop (f .«address_bytes») bs)
 readAs f fell code bs Rdid = idles
+readAs f fell code bs Snr = idles
 readAs f fell code bs Sleep = sleeps
 readAs f fell code bs Other = idles
 

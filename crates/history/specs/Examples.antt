@@ -1,4 +1,4 @@
--- The chip's own examples (its Examples), the starred ones, those of each rule and of part 4, told by the history: the two are
+-- The chip's own examples (its Examples), the starred ones, those of each rule and of parts 4 and 5, told by the history: the two are
 -- held to the same events and the same outcomes. One more for what those leave open. Computed; assumes nothing.
 use Prim.Native.Nat.{ℕ}
 use mathlib.Core.Bool.{Bool, true, false, _&&_}
@@ -14,6 +14,7 @@ use Rattle.chip.specs.Examples.Run.{Example, writes, idle, transfer, wren, same
 use Rattle.chip.specs.Examples.Starred.{starred}
 use Rattle.worked.specs.Examples.Rules.{ofLines, ofCodes, ofOutput, ofWriting, ofGuards, ofHold, rules}
 use Rattle.worked.specs.Examples.Part4.{ofGuarded, ofSleep}
+use Rattle.worked.specs.Examples.Part5.{ofSerial, ofLike4, part5}
 use Rattle.history.specs.Wire.{put, refusal, afterOne, act, acts}
 use Rattle.history.specs.Transfers.{transferFrom, spans}
 use Rattle.history.specs.Bytes.{bitsValue, eights, wholeBytes, topBit, number, address, readAs, readTransfer}
@@ -41,6 +42,6 @@ blocksAfter =
     (Latch true ∷ Stored 0x000 0x55 ∷ Latch false ∷ Latch true ∷ KeptSet 0x0C ∷ Latch false ∷ [])
     (idle 1 0x0C false false)
 
-pub examples : T (toldAll (blocksAfter ∷ starred ++ rules ++ ofGuarded ++ ofSleep))
-unfolding clocked starred rules ofLines ofCodes ofOutput ofWriting ofGuards ofHold ofGuarded ofSleep history obeyed isSleep inOrder spanned latchDrops atLeastOne effect keepFirst keepIf overlay storeIf readTransfer readAs address number topBit wholeBytes eights bitsValue transferFrom spans acts act afterOne refusal put figureOf command firstProtected mayStore mayKeep
+pub examples : T (toldAll (blocksAfter ∷ starred ++ rules ++ ofGuarded ++ ofSleep ++ part5))
+unfolding clocked starred rules ofLines ofCodes ofOutput ofWriting ofGuards ofHold ofGuarded ofSleep part5 ofSerial ofLike4 history obeyed isSleep inOrder spanned latchDrops atLeastOne effect keepFirst keepIf overlay storeIf readTransfer readAs address number topBit wholeBytes eights bitsValue transferFrom spans acts act afterOne refusal put figureOf command firstProtected mayStore mayKeep
 examples = tt

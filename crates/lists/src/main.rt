@@ -1,4 +1,4 @@
-// Lists of events at once, on part 1 with 80h at address 0. Each line of the file `stdout` was worked out by hand from
+// Lists of events at once, on part 1 with 80h at address 0, and on part 5. Each line of the file `stdout` was worked out by hand from
 // documents 01 and 02; the comment above a call says why. Every place of the answers held 9 before the call.
 use chip::list::Listed;
 use chip::list::events;
@@ -17,6 +17,7 @@ fn main() {
     io::write_all(STDOUT_FILENO, b"\n");
     short_array(powered.state);
     answer_places(powered.state);
+    serial_numbers();
 }
 
 // READ from 000: the select, the op-code, the address; bit 7 is shown at the header's last fall, bit 6 one clock on. Then 12,
@@ -100,9 +101,56 @@ fn answer_places(state: State) {
     );
 }
 
-// One call, and what it left.
+// SNR on part 5, and two clocks: SO is released until the op-code's last fall, which shows bit 7 of A5; then bits 6 and 5, 1, 0, 1,
+// each from its fall over the rise that follows. Seven serial bytes are 15, even for an empty list, and before 12.
+fn serial_numbers() {
+    let mut array = [0u8; 16384];
+    let powered = power_up(5, 0, &array);
+    let mut codes = [0u64; 29];
+    codes_of(b"05325324324324324325325323232", &mut codes);
+    let own = [0xA5u8, 0, 0, 0, 0, 0, 0, 0];
+    let state = powered.state;
+    send_as(
+        b"a serial number",
+        state,
+        &mut array,
+        &own,
+        &codes,
+        &mut [9u8; 29],
+    );
+    send_as(
+        b"empty, short serial",
+        state,
+        &mut array,
+        &own[..7],
+        &[],
+        &mut [9u8; 1],
+    );
+    send_as(
+        b"short serial, no answers",
+        state,
+        &mut array,
+        &own[..7],
+        &[0],
+        &mut [],
+    );
+}
+
+// One call with no serial number, and what it left.
 fn send(name: &[u8], state: State, array: &mut [u8], codes: &[u64], levels: &mut [u8]) -> Listed {
-    let listed = events(state, array, codes, levels);
+    send_as(name, state, array, &[], codes, levels)
+}
+
+// One call, and what it left.
+fn send_as(
+    name: &[u8],
+    state: State,
+    array: &mut [u8],
+    serial: &[u8],
+    codes: &[u64],
+    levels: &mut [u8],
+) -> Listed {
+    let listed = events(state, array, serial, codes, levels);
     io::write_all(STDOUT_FILENO, name);
     say(b": refused ", listed.refusal);
     io::write_all(STDOUT_FILENO, b" count ");

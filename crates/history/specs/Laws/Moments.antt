@@ -9,7 +9,7 @@ use lib.ListN.{length}
 use lib.Dec.{eqb, leb}
 use borrow.Author.Tests.{leb-true, eq-eqb, ne-eqb}
 use Rattle.parts.specs.FigureLaws.{Fair, fair}
-use Rattle.parts.specs.Figures.{figureOf, isPart, inMask}
+use Rattle.parts.specs.Figures.{figureOf, isPart, inMask, fitsSerial}
 use Rattle.pins.specs.Levels.{atRest}
 use Rattle.chip.specs.Event as chip
 use Rattle.chip.specs.EventLaws.{event-steps, checks-none}
@@ -31,13 +31,16 @@ use Rattle.history.specs.Laws.Select.{closed, select-world}
 use Rattle.history.specs.Laws.Step.{Agrees, off, on, unlatched, offChip, Onward, follows, refuses}
 
 -- an event that the checks let through, and one that they don't know
-module _ (xs : List ℕ) (s : State) (good : sound s ≡ true) (fits : length xs ≡ figureOf (s .part) .size) (code : ℕ) where
-  event-step : leb 12 code ≡ false → event xs s code ≡ answerOf (step (figureOf (s .part)) xs s code)
-  event-step e = event-steps xs s code (eq-eqb _ _ (checks-none xs s code good (eq-eqb _ _ fits) e))
+module _
+    (own xs : List ℕ) (s : State) (good : sound s ≡ true) (fits : length xs ≡ figureOf (s .part) .size)
+    (takes : fitsSerial (s .part) (length own) ≡ true) (code : ℕ)
+  where
+    event-step : leb 12 code ≡ false → event own xs s code ≡ answerOf (step (figureOf (s .part)) own xs s code)
+    event-step e = event-steps own xs s code (eq-eqb _ _ (checks-none own xs s code good (eq-eqb _ _ fits) takes e))
 
-  event-unknown : leb 12 code ≡ true → event xs s code ≡ answerOf (chip.refused 5 s)
-  unfolding event checks
-  event-unknown e = rw (good, eq-eqb _ _ fits, e)
+    event-unknown : leb 12 code ≡ true → event own xs s code ≡ answerOf (chip.refused 5 s)
+    unfolding event checks
+    event-unknown e = rw (good, eq-eqb _ _ fits, takes, e)
 
 either-way : {A : Type 0} (t : Bool) (a : A) → cond t a a ≡ a
 either-way true a = refl
@@ -63,37 +66,41 @@ pub record Moment (part : ℕ) (l : Wire) (p : Place) (w : World) (c : Chip) : T
   pub agrees : Agrees part l p w c
   pub good : sound (c .state) ≡ true
   pub fits : length (c .array) ≡ figureOf part .size
+  pub takes : fitsSerial part (length (c .serial)) ≡ true
 
 -- the chip is the part's
 own-part : {part : ℕ} {l : Wire} {p : Place} {w : World} {c : Chip} → Agrees part l p w c → c .state .part ≡ part
-own-part (off kept array) = refl
-own-part (on p w v sck si wp hold stage s) = refl
+own-part (off own kept array) = refl
+own-part (on own p w v sck si wp hold stage s) = refl
 
 world-of :
     {part : ℕ} {l : Wire} {p : Place} {w : World} {c : Chip} → Agrees part l p w c
     → worldOf c ≡ worldAt (figureOf part) w p
 unfolding worldAt
-world-of (off kept array) = refl
-world-of {part} (on p w v sck si wp hold stage s) = select-world (figureOf part) w s
+world-of (off own kept array) = refl
+world-of {part} (on own p w v sck si wp hold stage s) = select-world (figureOf part) w s
 
 module _ (part : ℕ) (fair : Fair (figureOf part)) {l : Wire} {p : Place} {w : World} {c : Chip} (m : Moment part l p w c) where
-  own : length (c .array) ≡ figureOf (c .state .part) .size
-  own = rw (own-part (m .agrees)) (m .fits)
+  sized : length (c .array) ≡ figureOf (c .state .part) .size
+  sized = rw (own-part (m .agrees)) (m .fits)
 
-  event-own : (code : ℕ) → leb 12 code ≡ false → event (c .array) (c .state) code ≡ answerOf (step (figureOf part) (c .array) (c .state) code)
+  numbered : fitsSerial (c .state .part) (length (c .serial)) ≡ true
+  numbered = rw (own-part (m .agrees)) (m .takes)
+
+  event-own : (code : ℕ) → leb 12 code ≡ false → event (c .serial) (c .array) (c .state) code ≡ answerOf (step (figureOf part) (c .serial) (c .array) (c .state) code)
   event-own code e =
-      event-step (c .array) (c .state) (m .good) own code e
-      ∙ ap (λ (k : ℕ). answerOf (step (figureOf k) (c .array) (c .state) code)) (own-part (m .agrees))
+      event-step (c .serial) (c .array) (c .state) (m .good) sized numbered code e
+      ∙ ap (λ (k : ℕ). answerOf (step (figureOf k) (c .serial) (c .array) (c .state) code)) (own-part (m .agrees))
 
   pub next-steps :
       (code : ℕ) → leb 12 code ≡ false
-      → next c code ≡ answered c (answerOf (step (figureOf part) (c .array) (c .state) code))
+      → next c code ≡ answered c (answerOf (step (figureOf part) (c .serial) (c .array) (c .state) code))
   unfolding next
   next-steps code e = ap (answered c) (event-own code e)
 
   next-stays : (code : ℕ) → leb 12 code ≡ true → next c code ≡ c
   unfolding next written
-  next-stays code e = ap (answered c) (event-unknown (c .array) (c .state) (m .good) own code e)
+  next-stays code e = ap (answered c) (event-unknown (c .serial) (c .array) (c .state) (m .good) sized numbered code e)
 
   agrees-next : (code : ℕ) → Onward part l p w code (next c code)
   unfolding placeAfter base
@@ -103,22 +110,24 @@ module _ (part : ℕ) (fair : Fair (figureOf part)) {l : Wire} {p : Place} {w : 
       go true e = rw (next-stays code e, unknown-stays l code e, unknown-passes l code e) (m .agrees)
       go false e = rw (next-steps code e) (follows part fair code e (m .agrees))
 
-  pub refusal-as : (code : ℕ) → event (c .array) (c .state) code .refusal ≡ refusal l code
+  pub refusal-as : (code : ℕ) → event (c .serial) (c .array) (c .state) code .refusal ≡ refusal l code
   unfolding refusal
   refusal-as code = go (leb 12 code) refl
     where
-      go : (t : Bool) → leb 12 code ≡ t → event (c .array) (c .state) code .refusal ≡ refusal l code
-      go true e = rw (event-unknown (c .array) (c .state) (m .good) own code e, e)
+      go : (t : Bool) → leb 12 code ≡ t → event (c .serial) (c .array) (c .state) code .refusal ≡ refusal l code
+      go true e = rw (event-unknown (c .serial) (c .array) (c .state) (m .good) sized numbered code e, e)
       go false e = ap (λ (a : Answer). a .refusal) (event-own code e) ∙ refuses part code e (m .agrees)
 
   pub moment-next :
       (code : ℕ)
       → Moment part (afterOne l code) (placeAfter (figureOf part) p (act l code)) (base (figureOf part) w p (act l code)) (next c code)
+  unfolding next
   moment-next code =
       record {
         agrees = agrees-next code;
         good = next-sound c code (m .good);
         fits = next-length c code ∙ m .fits;
+        takes = m .takes;
       }
 
 -- where a run leads
@@ -145,21 +154,23 @@ reached part fair {l} {p} {w} {c} m (code ∷ codes) =
 
 -- from power-up on
 pub reached-from :
-    (part kept : ℕ) (array : List ℕ) → isPart part ≡ true → inMask part kept ≡ true → length array ≡ figureOf part .size
-    → (codes : List ℕ) → Reached part (rest true) (outside false) (unlatched kept array) (poweredUp part kept array) codes
-reached-from part kept array one under fits =
+    (part kept : ℕ) (array own : List ℕ) → isPart part ≡ true → inMask part kept ≡ true → length array ≡ figureOf part .size
+    → fitsSerial part (length own) ≡ true
+    → (codes : List ℕ) → Reached part (rest true) (outside false) (unlatched kept array) (poweredUp part kept array own) codes
+reached-from part kept array own one under fits takes =
     reached part (fair part one)
     (record {
-      agrees = on (outside false) (unlatched kept array) (unlatched kept array) false Down Up High Closed (closed false);
+      agrees = on own (outside false) (unlatched kept array) (unlatched kept array) false Down Up High Closed (closed false);
       good = rest-sound part kept true one under;
       fits = fits;
+      takes = takes;
     })
 
 pub world-told :
-    (part kept : ℕ) (array codes : List ℕ) → Reached part (rest true) (outside false) (unlatched kept array) (poweredUp part kept array) codes
-    → worldOf (run (poweredUp part kept array) codes) ≡ history part kept array codes
+    (part kept : ℕ) (array own codes : List ℕ) → Reached part (rest true) (outside false) (unlatched kept array) (poweredUp part kept array own) codes
+    → worldOf (run (poweredUp part kept array own) codes) ≡ history part kept array codes
 unfolding history from
-world-told part kept array codes r = world-of (r .moment .agrees) ∙ sym (r .told)
+world-told part kept array own codes r = world-of (r .moment .agrees) ∙ sym (r .told)
 
 pub run-append : (c : Chip) (codes more : List ℕ) → run c (codes ++ more) ≡ run (run c codes) more
 unfolding run
@@ -168,15 +179,15 @@ run-append c (code ∷ codes) more = run-append (next c code) codes more
 
 -- the cut and the return of power
 cut-dark : {part : ℕ} {l : Wire} {p : Place} {w : World} {c : Chip} → Agrees part l p w c
-    → answered c (answerOf (step (figureOf part) (c .array) (c .state) 10)) ≡ offChip part (c .state .kept) (c .array)
+    → answered c (answerOf (step (figureOf part) (c .serial) (c .array) (c .state) 10)) ≡ offChip part (c .serial) (c .state .kept) (c .array)
 unfolding step live written
-cut-dark (off kept array) = refl
-cut-dark (on p w v sck si wp hold stage s) = refl
+cut-dark (off own kept array) = refl
+cut-dark (on own p w v sck si wp hold stage s) = refl
 
 pub cut-leaves : (part : ℕ) → Fair (figureOf part) → {l : Wire} {p : Place} {w : World} {c : Chip} → Moment part l p w c
-    → run c (10 ∷ 11 ∷ []) ≡ record { state = atRest part (c .state .kept) true; array = c .array }
+    → run c (10 ∷ 11 ∷ []) ≡ record { state = atRest part (c .state .kept) true; array = c .array; serial = c .serial }
 unfolding run step written
 cut-leaves part fair {c = c} m =
     next-steps part fair (moment-next part fair m 10) 11 refl
-    ∙ ap (λ (d : Chip). answered d (answerOf (step (figureOf part) (d .array) (d .state) 11)))
+    ∙ ap (λ (d : Chip). answered d (answerOf (step (figureOf part) (d .serial) (d .array) (d .state) 11)))
     (next-steps part fair m 10 refl ∙ cut-dark (m .agrees))

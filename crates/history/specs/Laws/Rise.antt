@@ -13,7 +13,7 @@ use Rattle.parts.specs.Commands.{command}
 use Rattle.parts.specs.Guards.{mayStore, mayKeep}
 use Rattle.parts.specs.declared.figures.Figure.{Figure}
 use Rattle.parts.specs.declared.commands.Command.{Command}
-use Rattle.parts.specs.declared.commands.Command.the-variants.{Wren, Wrdi, Rdsr, Wrsr, Read, Fstrd, Write, Rdid, Sleep, Other}
+use Rattle.parts.specs.declared.commands.Command.the-variants.{Wren, Wrdi, Rdsr, Wrsr, Read, Fstrd, Write, Rdid, Snr, Sleep, Other}
 use Rattle.parts.specs.declared.guards.Verdict.{Verdict}
 use Rattle.parts.specs.declared.guards.Verdict.the-variants.{Allowed, HeldBack}
 use Rattle.stages.specs.Bits.{noBits, takeBit}
@@ -33,12 +33,12 @@ use Rattle.stages.specs.declared.stage.Stage.{Stage}
 use Rattle.stages.specs.declared.stage.Stage.the-variants.{Upper, Lower, Dummy, Ready, Over}
 use Rattle.stages.specs.declared.stage.End.{End}
 use Rattle.stages.specs.declared.stage.End.the-variants.{Quiet, Drops, Sleeps}
-use Rattle.stages.specs.declared.stage.What.the-variants.{Array, Status, Ident}
+use Rattle.stages.specs.declared.stage.What.the-variants.{Array, Status, Ident, Serial}
 use Rattle.chip.specs.Event.{written}
 use Rattle.history.specs.Bytes.{Byte, wrsrByte, Reading, latches, sleeps, idles, topBit, number, address, readAs, readTransfer}
 use Rattle.history.specs.History.{World, withLatch, storeIf, overlaid, overlay, keepIf, keepFirst, effect, atLeastOne}
 use Rattle.history.specs.Laws.Addresses.{next-place, start-one, start-two}
-use Rattle.history.specs.Laws.Stage.{ends, Ended, over, dummy, ready, array, status, ident, wrote, dataOf, wrsrLine, Idle, Paged, Settled, Image, code, upper, lower, writing, keeping, settled}
+use Rattle.history.specs.Laws.Stage.{ends, Ended, over, dummy, ready, array, status, ident, serial, wrote, dataOf, wrsrLine, Idle, Paged, Settled, Image, code, upper, lower, writing, keeping, settled}
 
 abbrev pub seenIn : World → Bool → Bool → Seen
 seenIn w wp si = record { latch = w .latch; kept = w .kept; wp = wp; si = si }
@@ -68,6 +68,7 @@ ended-rests f seen (ready what at) = rested (ready what at)
 ended-rests f seen (array level bit at) = rested (array level bit at)
 ended-rests f seen (status level bit) = rested (status level bit)
 ended-rests f seen (ident level bit at) = rested (ident level bit at)
+ended-rests f seen (serial level bit at) = rested (serial level bit at)
 
 rested-leads :
     (f : Figure) (w v : World) (sh : ℕ) (wp pin si : Bool) {read : List Byte → Reading} {r : Risen} (now : World → World) (end : End)
@@ -188,6 +189,7 @@ module _ (f : Figure) (fair : Fair f) (w v : World) (sh : ℕ) (pin si : Bool)
   whole-op e fell Write =
       record { image = whole-memory ToWrite _ _ (λ bs. refl) (fair .header); world = rw (drop-nil (f .«address_bytes»)) e }
   whole-op e fell Rdid = record { image = reads idles (ready Ident 0); world = e }
+  whole-op e fell Snr = record { image = reads idles (ready Serial 0); world = e }
   whole-op e fell Sleep = record { image = reads sleeps (over Sleeps); world = e }
   whole-op e fell Other = record { image = reads idles (over Quiet); world = e }
 

@@ -61,13 +61,13 @@ module _ (f : Figure) (w : World) where
   select-world (going {fell = fell} read r c e i) = rw (cut-bytes f fell c) e
 
   pub select-fall :
-      (xs : List ℕ) (status : ℕ) {p : Place} {v : World} {stage : Stage}
-      → Selected f w p v stage → Selected f w p v (fall f xs status stage)
+      (own xs : List ℕ) (status : ℕ) {p : Place} {v : World} {stage : Stage}
+      → Selected f w p v stage → Selected f w p v (fall f own xs status stage)
   unfolding fall
-  select-fall xs status (closed true) = closed true
-  select-fall xs status (closed false) = closed false
-  select-fall xs status waking = waking
-  select-fall xs status (going read r c e i) = going read r c e (image-fall f xs status i)
+  select-fall own xs status (closed true) = closed true
+  select-fall own xs status (closed false) = closed false
+  select-fall own xs status waking = waking
+  select-fall own xs status (going read r c e i) = going read r c e (image-fall f own xs status i)
 
   -- a select that just opened
   pub select-fresh : (asleep fell : Bool) → Selected f w (inside asleep fell []) w (afterFall f fell (shutStage asleep))

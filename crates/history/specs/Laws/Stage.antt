@@ -10,7 +10,7 @@ use Rattle.parts.specs.declared.figures.Figure.{Figure}
 use Rattle.stages.specs.Address.{upperPage, nextAddress}
 use Rattle.stages.specs.Close as close
 use Rattle.stages.specs.Wp.{lineOf, cameWith}
-use Rattle.select.specs.Fall.{fall, showArray, showStatus, showIdent, nextIdent}
+use Rattle.select.specs.Fall.{fall, showArray, showStatus, showIdent, nextIdent, showSerial, nextSerial}
 use Rattle.stages.specs.declared.stage.Came.{Came}
 use Rattle.stages.specs.declared.stage.Came.the-variants.{NoByte, NoByteLow, Bytes, BytesLow}
 use Rattle.stages.specs.declared.stage.End.{End}
@@ -19,9 +19,9 @@ use Rattle.stages.specs.declared.stage.Line.{Line}
 use Rattle.stages.specs.declared.stage.Purpose.{Purpose}
 use Rattle.stages.specs.declared.stage.Purpose.the-variants.{ToRead, ToReadFast, ToWrite}
 use Rattle.stages.specs.declared.stage.What.{What}
-use Rattle.stages.specs.declared.stage.What.the-variants.{Array, Status, Ident}
+use Rattle.stages.specs.declared.stage.What.the-variants.{Array, Status, Ident, Serial}
 use Rattle.stages.specs.declared.stage.Stage.{Stage}
-use Rattle.stages.specs.declared.stage.Stage.the-variants.{Closed, Asleep, Code, Upper, Lower, Dummy, Ready, ArrayOut, StatusOut, IdentOut, Writing, Keeping, Over}
+use Rattle.stages.specs.declared.stage.Stage.the-variants.{Closed, Asleep, Code, Upper, Lower, Dummy, Ready, ArrayOut, StatusOut, IdentOut, SerialOut, Writing, Keeping, Over}
 use Rattle.history.specs.Bytes.{Byte, wrsrByte, Reading, latches, stores, keeps, sleeps, idles, readTransfer}
 use Rattle.history.specs.History.{World, overlay, effect, atLeastOne, latchDrops, isSleep}
 
@@ -72,6 +72,7 @@ pub data Ended : End → Stage → Type 0 where
   array : (level : Line) (bit at : ℕ) → Ended Quiet (ArrayOut level bit at)
   status : (level : Line) (bit : ℕ) → Ended Quiet (StatusOut level bit)
   ident : (level : Line) (bit at : ℕ) → Ended Quiet (IdentOut level bit at)
+  serial : (level : Line) (bit at : ℕ) → Ended Quiet (SerialOut level bit at)
 
 -- what came of a WRITE's data, with the bytes that come now
 abbrev pub wrote : Came → List Byte → End
@@ -134,6 +135,7 @@ module _ (f : Figure) where
   ended-open (array level bit at) = refl
   ended-open (status level bit) = refl
   ended-open (ident level bit at) = refl
+  ended-open (serial level bit at) = refl
 
   pub image-open : {sh : ℕ} {wp : Bool} {read : List Byte → Reading} {stage : Stage} → Image sh wp read stage → close.isClosed stage ≡ false
   image-open (code fell) = refl
@@ -151,6 +153,7 @@ module _ (f : Figure) where
   ended-ends (array level bit at) = refl
   ended-ends (status level bit) = refl
   ended-ends (ident level bit at) = refl
+  ended-ends (serial level bit at) = refl
 
   came-ends : (came : Came) (wp : Bool) (sh at : ℕ) → close.endOf (Writing (cameWith came wp) sh at) ≡ wrote came []
   unfolding atLeastOne
@@ -173,14 +176,15 @@ module _ (f : Figure) where
   image-ends (settled now end s e) = ended-ends e ∙ sym (s .close [])
 
   -- a fall of SCK moves only what is shown
-  module _ (xs : List ℕ) (level : ℕ) where
-    ended-fall : {end : End} {stage : Stage} → Ended end stage → Ended end (fall f xs level stage)
-    unfolding fall showArray showStatus showIdent nextIdent
+  module _ (own xs : List ℕ) (level : ℕ) where
+    ended-fall : {end : End} {stage : Stage} → Ended end stage → Ended end (fall f own xs level stage)
+    unfolding fall showArray showStatus showIdent nextIdent showSerial nextSerial
     ended-fall (over end) = over end
     ended-fall (dummy shift at) = dummy shift at
     ended-fall (ready Array at) = array _ 7 at
     ended-fall (ready Status at) = status _ 7
     ended-fall (ready Ident at) = ident _ 7 at
+    ended-fall (ready Serial at) = serial _ 7 at
     ended-fall (array line bit at) = go (eqb bit 0)
       where
         go : (t : Bool) → Ended Quiet (cond t (showArray xs (nextAddress f at) 7) (showArray xs at (bit - 1)))
@@ -197,9 +201,15 @@ module _ (f : Figure) where
         go true true = ident _ 7 (at + 1)
         go true false = over Quiet
         go false u = ident _ (bit - 1) at
+    ended-fall (serial line bit at) = go (eqb bit 0) (ltb (at + 1) (f .serial))
+      where
+        go : (t u : Bool) → Ended Quiet (cond t (cond u (showSerial own (at + 1) 7) (Over Quiet)) (showSerial own at (bit - 1)))
+        go true true = serial _ 7 (at + 1)
+        go true false = over Quiet
+        go false u = serial _ (bit - 1) at
 
     pub image-fall :
-        {sh : ℕ} {wp : Bool} {read : List Byte → Reading} {stage : Stage} → Image sh wp read stage → Image sh wp read (fall f xs level stage)
+        {sh : ℕ} {wp : Bool} {read : List Byte → Reading} {stage : Stage} → Image sh wp read stage → Image sh wp read (fall f own xs level stage)
     unfolding fall
     image-fall (code fell) = code fell
     image-fall (upper purpose i l) = upper purpose i l
