@@ -1,4 +1,4 @@
--- Chips on one board don't disturb one another. Assumes nothing.
+-- Chips on one board don't disturb one another. The serials, lent read only, are the same to all events. Assumes nothing.
 use Prim.Native.Nat.{ℕ, zero, suc}
 use mathlib.Core.Path.{_≡_, refl, sym, ap, _∙_}
 use mathlib.Core.Bool.{Bool, true, false, cond}
@@ -94,14 +94,14 @@ module _ (h : Held) (eight : length (h .board .chips) ≡ 8) where
   -- both accepted: each chip has moved
   both-moved :
       (a b : Sent) → isOwn (a .code) ≡ true → isOwn (b .code) ≡ true → refusalOf h a ≡ 0 → refusalOf (next h a) b ≡ 0
-      → next (next h a) b ≡ put (h .board) (at (b .chip) (b .code) (at (a .chip) (a .code) (chips h)))
+      → next (next h a) b ≡ put h (at (b .chip) (b .code) (at (a .chip) (a .code) (chips h)))
   both-moved a b own own′ r s =
       let g = good-from h a eight r in
       next-put (next h a) b s
-      ∙ ap (λ (f : Held). put (f .board) (moved (b .chip) (b .code) (chips (next h a)))) (next-put h a r)
-      ∙ put-put (h .board) (moved (a .chip) (a .code) (chips h)) (many-moved h g (a .chip) (a .code)) (moved (b .chip) (b .code) (chips (next h a)))
-      ∙ ap (λ (t : Bool). put (h .board) (cond t (at (b .chip) (b .code) (chips (next h a))) (every (b .code) (chips (next h a))))) own′
-      ∙ ap (λ (cs : List Chip). put (h .board) (at (b .chip) (b .code) cs)) (own-moved h a own g r)
+      ∙ ap (λ (f : Held). put f (moved (b .chip) (b .code) (chips (next h a)))) (next-put h a r)
+      ∙ put-put h (moved (a .chip) (a .code) (chips h)) (many-moved h g (a .chip) (a .code)) (moved (b .chip) (b .code) (chips (next h a)))
+      ∙ ap (λ (t : Bool). put h (cond t (at (b .chip) (b .code) (chips (next h a))) (every (b .code) (chips (next h a))))) own′
+      ∙ ap (λ (cs : List Chip). put h (at (b .chip) (b .code) cs)) (own-moved h a own g r)
 
   pub either-order :
       (a b : Sent) → isOwn (a .code) ≡ true → isOwn (b .code) ≡ true → (a .chip ≡ b .chip → ⊥)
@@ -118,7 +118,7 @@ module _ (h : Held) (eight : length (h .board .chips) ≡ 8) where
       go : (s t : Bool) → eqb (refusalOf h a) 0 ≡ s → eqb (refusalOf h b) 0 ≡ t → next (next h a) b ≡ next (next h b) a
       go true true p q =
           both-moved a b own own′ (eqb-true _ _ p) (same-b ∙ eqb-true _ _ q)
-          ∙ ap (put (h .board)) (at-either (chips h) (b .chip) (a .chip) (b .code) (a .code) (λ e. n (sym e)))
+          ∙ ap (put h) (at-either (chips h) (b .chip) (a .chip) (b .code) (a .code) (λ e. n (sym e)))
           ∙ sym (both-moved b a own′ own (eqb-true _ _ q) (same-a ∙ eqb-true _ _ p))
       go true false p q =
           next-stays (next h a) b (ap (λ (r : ℕ). eqb r 0) same-b ∙ q) ∙ sym (ap (λ (g : Held). next g a) (next-stays h b q))

@@ -5,7 +5,7 @@ use mathlib.Core.List.{List, [], _∷_}
 use lib.Dec.{eqb, leb, ltb}
 use Rattle.pins.specs.Sound.{sound}
 use Rattle.pins.specs.declared.state.State.{State}
-use Rattle.board.specs.Chips.{fitted, together}
+use Rattle.board.specs.Chips.{fitted, together, serialsTogether}
 use Rattle.board.specs.declared.chips.Board.{Board}
 
 -- "each with its own /CS and /HOLD": pins 0 and 3, "its code is twice the pin number plus the level"
@@ -21,12 +21,13 @@ allSound [] = true
 allSound (s ∷ ss) = sound s && allSound ss
 
 -- "13, no chips or over eight; 14, no such chip, for an own line only; 4 for any chip; 2, slice not as long as all pieces
---  together; 5"
-unfoldable pub checks : Board → ℕ → ℕ → ℕ → ℕ
-checks b len chip code =
+--  together; 5"; 15, "slice not eight bytes per part 5 chip", "after 2" (Wish 8). By the lengths of the slice and of the serials.
+unfoldable pub checks : Board → ℕ → ℕ → ℕ → ℕ → ℕ
+checks b len serials chip code =
     cond (noBoard (b .count)) 13
     (cond (isOwn code && leb (b .count) chip) 14
     (cond (not (allSound (fitted b))) 4
     (cond (not (eqb len (together (fitted b)))) 2
+    (cond (not (eqb serials (serialsTogether (fitted b)))) 15
     (cond (leb 12 code) 5
-    0))))
+    0)))))

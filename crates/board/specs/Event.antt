@@ -30,14 +30,14 @@ moved k code cs = cond (isOwn code) (at k code cs) (every code cs)
 -- "then 6 and 7 of the chip moved"
 unfoldable pub refusalAt : ℕ → ℕ → List Chip → ℕ
 refusalAt k code [] = 0
-refusalAt zero code (c ∷ cs) = chip.event (c .array) (c .state) code .refusal
+refusalAt zero code (c ∷ cs) = chip.event (c .serial) (c .array) (c .state) code .refusal
 refusalAt (suc k) code (c ∷ cs) = refusalAt k code cs
 
-unfoldable pub refusal : List ℕ → Board → ℕ → ℕ → ℕ
-refusal xs b k code =
-    chip.first (checks b (length xs) k code) (cond (isOwn code) (refusalAt k code (chipsOf b xs)) 0)
+unfoldable pub refusal : List ℕ → List ℕ → Board → ℕ → ℕ → ℕ
+refusal serials xs b k code =
+    chip.first (checks b (length xs) (length serials) k code) (cond (isOwn code) (refusalAt k code (chipsOf b xs serials)) 0)
 
--- what an event leaves: the answer, and the lent slice
+-- what an event leaves: the answer, and the lent slice; the serials are lent read only
 pub record Outcome : Type 0 where
   pub refusal : ℕ
   pub so : BoardSo
@@ -51,6 +51,9 @@ left b cs = record { refusal = 0; so = boardSo (states cs); board = withChips b 
 abbrev pub refused : ℕ → Board → List ℕ → Outcome
 refused number b xs = record { refusal = number; so = Released; board = b; slice = xs }
 
-unfoldable pub event : List ℕ → Board → ℕ → ℕ → Outcome
-event xs b k code =
-    cond (eqb (refusal xs b k code) 0) (left b (moved k code (chipsOf b xs))) (refused (refusal xs b k code) b xs)
+-- one event on the lent slice xs, with the lent serials
+unfoldable pub event : List ℕ → List ℕ → Board → ℕ → ℕ → Outcome
+event serials xs b k code =
+    cond (eqb (refusal serials xs b k code) 0)
+    (left b (moved k code (chipsOf b xs serials)))
+    (refused (refusal serials xs b k code) b xs)

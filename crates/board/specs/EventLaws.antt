@@ -1,6 +1,6 @@
 -- An event on the board by its refusal: refused it leaves all, else it leaves the chips moved. Assumes nothing.
 use Prim.Native.Nat.{ℕ, zero, suc, _<_, _≤_}
-use mathlib.Core.Path.{_≡_, refl, sym, ap, _∙_}
+use mathlib.Core.Path.{_≡_, refl, sym, ap, subst, _∙_}
 use mathlib.Core.Bool.{Bool, true, false, cond}
 use mathlib.Core.List.{List, [], _∷_}
 use lib.Dec.{eqb}
@@ -12,7 +12,7 @@ use Rattle.chip.specs.Event as chip
 use Rattle.chip.specs.RefusalLaws.{refusal-told, refusal-stays}
 use Rattle.chip.specs.Run.{Chip, next}
 use Rattle.chip.specs.declared.event.Answer.{Answer}
-use Rattle.board.specs.Chips.{fitted, together, pieces, chipsOf, states, slice, withChips}
+use Rattle.board.specs.Chips.{fitted, together, serialsTogether, pieces, chipsOf, states, slice, withChips}
 use Rattle.board.specs.Checks.{isOwn, checks}
 use Rattle.board.specs.CheckLaws.{Passed, checks-passed}
 use Rattle.board.specs.Event.{every, at, moved, refusalAt, refusal, Outcome, left, refused, event}
@@ -24,12 +24,13 @@ use Rattle.board.specs.declared.so.BoardSo.{BoardSo}
 use Rattle.board.specs.declared.so.BoardSo.the-variants.{Released}
 
 -- "a refused event changes no chip": a chip that refuses is as it was
-pub next-refused : (c : Chip) (code : ℕ) → eqb (chip.event (c .array) (c .state) code .refusal) 0 ≡ false → next c code ≡ c
+pub next-refused : (c : Chip) (code : ℕ) → eqb (chip.event (c .serial) (c .array) (c .state) code .refusal) 0 ≡ false → next c code ≡ c
 unfolding next
 next-refused c code h = λ i.
     record {
-      state = ap (λ (a : Answer). a .state) (refusal-told (c .state) (c .array) code h) i;
-      array = refusal-stays (c .state) (c .array) code h i;
+      state = ap (λ (a : Answer). a .state) (refusal-told (c .state) (c .serial) (c .array) code h) i;
+      array = refusal-stays (c .state) (c .serial) (c .array) code h i;
+      serial = c .serial;
     }
 
 pub at-refused : (cs : List Chip) (k code : ℕ) → eqb (refusalAt k code cs) 0 ≡ false → at k code cs ≡ cs
@@ -39,10 +40,10 @@ at-refused (c ∷ cs) zero code h = ap (λ (d : Chip). d ∷ cs) (next-refused c
 at-refused (c ∷ cs) (suc k) code h = ap (λ (ds : List Chip). c ∷ ds) (at-refused cs k code h)
 
 -- as many chips as before
-pub many-pieces : (ss : List State) (xs : List ℕ) → length (pieces ss xs) ≡ length ss
+pub many-pieces : (ss : List State) (xs ns : List ℕ) → length (pieces ss xs ns) ≡ length ss
 unfolding pieces
-many-pieces [] xs = refl
-many-pieces (s ∷ ss) xs = ap suc (many-pieces ss _)
+many-pieces [] xs ns = refl
+many-pieces (s ∷ ss) xs ns = ap suc (many-pieces ss _ _)
 
 pub many-every : (code : ℕ) (cs : List Chip) → length (every code cs) ≡ length cs
 unfolding every
@@ -64,35 +65,35 @@ many-states (c ∷ cs) = ap suc (many-states cs)
 pub fitted-with : (b : Board) (cs : List Chip) → length cs ≡ b .count → fitted (withChips b cs) ≡ states cs
 fitted-with b cs h = take-at (states cs) (drop (b .count) (b .chips)) (b .count) (many-states cs ∙ h)
 
-module _ (xs : List ℕ) (b : Board) (k code : ℕ) where
+module _ (ns xs : List ℕ) (b : Board) (k code : ℕ) where
   by : Bool → Outcome
-  by t = cond t (left b (moved k code (chipsOf b xs))) (refused (refusal xs b k code) b xs)
+  by t = cond t (left b (moved k code (chipsOf b xs ns))) (refused (refusal ns xs b k code) b xs)
 
-  pub event-refused : eqb (refusal xs b k code) 0 ≡ false → event xs b k code ≡ refused (refusal xs b k code) b xs
+  pub event-refused : eqb (refusal ns xs b k code) 0 ≡ false → event ns xs b k code ≡ refused (refusal ns xs b k code) b xs
   unfolding event by
   event-refused e = ap by e
 
-  pub event-left : refusal xs b k code ≡ 0 → event xs b k code ≡ left b (moved k code (chipsOf b xs))
+  pub event-left : refusal ns xs b k code ≡ 0 → event ns xs b k code ≡ left b (moved k code (chipsOf b xs ns))
   unfolding event by
   event-left e = ap by (eq-eqb _ _ e)
 
   -- whose refusal it is
-  pub by-checks : eqb (checks b (length xs) k code) 0 ≡ false → refusal xs b k code ≡ checks b (length xs) k code
+  pub by-checks : eqb (checks b (length xs) (length ns) k code) 0 ≡ false → refusal ns xs b k code ≡ checks b (length xs) (length ns) k code
   unfolding refusal
   by-checks e = rw e
 
-  pub by-chip : checks b (length xs) k code ≡ 0 → isOwn code ≡ true → refusal xs b k code ≡ refusalAt k code (chipsOf b xs)
+  pub by-chip : checks b (length xs) (length ns) k code ≡ 0 → isOwn code ≡ true → refusal ns xs b k code ≡ refusalAt k code (chipsOf b xs ns)
   unfolding refusal
   by-chip e own = rw (e, own)
 
-  pub by-none : checks b (length xs) k code ≡ 0 → isOwn code ≡ false → refusal xs b k code ≡ 0
+  pub by-none : checks b (length xs) (length ns) k code ≡ 0 → isOwn code ≡ false → refusal ns xs b k code ≡ 0
   unfolding refusal
   by-none e shared = rw (e, shared)
 
   -- what the call promises where it is refused, and where it is not
   pub promise-refused :
-      (r : ℕ) (ys : List ℕ) → r ≡ refusal xs b k code → (r ≡ 0 → ⊥) → ys ≡ xs
-      → BoardPromise xs b k code (record { refusal = r; so = Released; board = b }) ys
+      (r : ℕ) (ys : List ℕ) → r ≡ refusal ns xs b k code → (r ≡ 0 → ⊥) → ys ≡ xs
+      → BoardPromise ns xs b k code (record { refusal = r; so = Released; board = b }) ys
   promise-refused r ys e n s = (
     e ∙ sym (ap (λ (o : Outcome). o .refusal) out),
     sym (ap (λ (o : Outcome). soNumber (o .so)) out),
@@ -100,14 +101,14 @@ module _ (xs : List ℕ) (b : Board) (k code : ℕ) where
     s ∙ sym (ap (λ (o : Outcome). o .slice) out),
   )
     where
-      out : event xs b k code ≡ refused (refusal xs b k code) b xs
+      out : event ns xs b k code ≡ refused (refusal ns xs b k code) b xs
       out = event-refused (sym (ap (λ (z : ℕ). eqb z 0) e) ∙ ne-eqb r 0 n)
 
   pub promise-left :
       (r : ℕ) (so : BoardSo) (after : Board) (ys : List ℕ) (cs : List Chip)
-      → r ≡ 0 → refusal xs b k code ≡ 0 → cs ≡ moved k code (chipsOf b xs) → length cs ≡ b .count
+      → r ≡ 0 → refusal ns xs b k code ≡ 0 → cs ≡ moved k code (chipsOf b xs ns) → length cs ≡ b .count
       → so ≡ boardSo (fitted after) → after ≡ withChips b cs → ys ≡ slice cs
-      → BoardPromise xs b k code (record { refusal = r; so = so; board = after }) ys
+      → BoardPromise ns xs b k code (record { refusal = r; so = so; board = after }) ys
   promise-left r so after ys cs z e m n p q s = (
     z ∙ sym (ap (λ (o : Outcome). o .refusal) out),
     ap soNumber (p ∙ ap (λ (a : Board). boardSo (fitted a)) q ∙ ap boardSo (fitted-with b cs n)) ∙ sym (ap (λ (o : Outcome). soNumber (o .so)) out),
@@ -115,63 +116,69 @@ module _ (xs : List ℕ) (b : Board) (k code : ℕ) where
     s ∙ sym (ap (λ (o : Outcome). o .slice) out),
   )
     where
-      out : event xs b k code ≡ left b cs
+      out : event ns xs b k code ≡ left b cs
       out = event-left e ∙ ap (left b) (sym m)
 
 -- the ways out of the call: the checks gave r
-module _ (xs : List ℕ) (b : Board) (k code r : ℕ) (told : r ≡ checks b (length xs) k code) where
-  pub way-refused : (r ≡ 0 → ⊥) → BoardPromise xs b k code (record { refusal = r; so = Released; board = b }) xs
+module _ (ns xs : List ℕ) (b : Board) (k code r : ℕ) (told : r ≡ checks b (length xs) (length ns) k code) where
+  pub way-refused : (r ≡ 0 → ⊥) → BoardPromise ns xs b k code (record { refusal = r; so = Released; board = b }) xs
   way-refused n =
-      promise-refused xs b k code r xs (told ∙ sym (by-checks xs b k code (sym (ap (λ (z : ℕ). eqb z 0) told) ∙ ne-eqb r 0 n))) n refl
+      promise-refused ns xs b k code r xs (told ∙ sym (by-checks ns xs b k code (sym (ap (λ (z : ℕ). eqb z 0) told) ∙ ne-eqb r 0 n))) n refl
 
   module _ (fine : r ≡ 0) where
-    none : checks b (length xs) k code ≡ 0
+    none : checks b (length xs) (length ns) k code ≡ 0
     none = sym told ∙ fine
 
-    passed : Passed b (length xs) k code
-    passed = checks-passed b (length xs) k code none
+    passed : Passed b (length xs) (length ns) k code
+    passed = checks-passed b (length xs) (length ns) k code none
 
     pub few-chips : b .count ≤ 8
     few-chips = passed .few
 
+    pub few-after : (after : Board) (cs : List Chip) → after ≡ withChips b cs → after .count ≤ 8
+    few-after after cs e = subst (λ (c : Board). c .count ≤ 8) (sym e) few-chips
+
     pub whole-slice : together (fitted b) ≡ length xs
     whole-slice = passed .long
+
+    pub whole-serials : serialsTogether (fitted b) ≡ length ns
+    whole-serials = passed .numbered
 
     pub its-chip : isOwn code ≡ true → k < b .count
     its-chip = passed .there
 
     module _ (places : b .count ≤ length (b .chips)) where
-      many : length (chipsOf b xs) ≡ b .count
-      many = many-pieces (fitted b) xs ∙ length-take-le (b .count) (b .chips) places
+      many : length (chipsOf b xs ns) ≡ b .count
+      many = many-pieces (fitted b) xs ns ∙ length-take-le (b .count) (b .chips) places
 
       pub way-shared :
           (so : BoardSo) (after : Board) (ys : List ℕ) → isOwn code ≡ false
-          → (after ≡ withChips b (every code (chipsOf b xs))) × (ys ≡ slice (every code (chipsOf b xs)))
+          → (after ≡ withChips b (every code (chipsOf b xs ns))) × (ys ≡ slice (every code (chipsOf b xs ns)))
           → so ≡ boardSo (fitted after)
-          → BoardPromise xs b k code (record { refusal = r; so = so; board = after }) ys
+          → BoardPromise ns xs b k code (record { refusal = r; so = so; board = after }) ys
       way-shared so after ys shared left p =
-          promise-left xs b k code r so after ys (every code (chipsOf b xs)) fine (by-none xs b k code none shared)
-          (sym (ap (λ (t : Bool). cond t (at k code (chipsOf b xs)) (every code (chipsOf b xs))) shared))
-          (many-every code (chipsOf b xs) ∙ many) p (left .0) (left .1)
+          promise-left ns xs b k code r so after ys (every code (chipsOf b xs ns)) fine (by-none ns xs b k code none shared)
+          (sym (ap (λ (t : Bool). cond t (at k code (chipsOf b xs ns)) (every code (chipsOf b xs ns))) shared))
+          (many-every code (chipsOf b xs ns) ∙ many) p (left .0) (left .1)
 
       -- an own line: the chip's refusal q, and what it left
       module _ (own : isOwn code ≡ true) (q : ℕ) (after : Board) (ys : List ℕ)
-          (left : (q ≡ refusalAt k code (chipsOf b xs)) × (after ≡ withChips b (at k code (chipsOf b xs)))
-          × (ys ≡ slice (at k code (chipsOf b xs)))) where
-        its : refusal xs b k code ≡ q
-        its = by-chip xs b k code none own ∙ sym (left .0)
+          (left : (q ≡ refusalAt k code (chipsOf b xs ns)) × (after ≡ withChips b (at k code (chipsOf b xs ns)))
+          × (ys ≡ slice (at k code (chipsOf b xs ns)))) where
+        its : refusal ns xs b k code ≡ q
+        its = by-chip ns xs b k code none own ∙ sym (left .0)
 
         pub way-own :
             (so : BoardSo) → q ≡ 0 → so ≡ boardSo (fitted after)
-            → BoardPromise xs b k code (record { refusal = q; so = so; board = after }) ys
+            → BoardPromise ns xs b k code (record { refusal = q; so = so; board = after }) ys
         way-own so z p =
-            promise-left xs b k code q so after ys (at k code (chipsOf b xs)) z (its ∙ z)
-            (sym (ap (λ (t : Bool). cond t (at k code (chipsOf b xs)) (every code (chipsOf b xs))) own))
-            (many-at k code (chipsOf b xs) ∙ many) p (left .1) (left .2)
+            promise-left ns xs b k code q so after ys (at k code (chipsOf b xs ns)) z (its ∙ z)
+            (sym (ap (λ (t : Bool). cond t (at k code (chipsOf b xs ns)) (every code (chipsOf b xs ns))) own))
+            (many-at k code (chipsOf b xs ns) ∙ many) p (left .1) (left .2)
 
-        pub way-own-refused : (q ≡ 0 → ⊥) → BoardPromise xs b k code (record { refusal = q; so = Released; board = b }) ys
+        pub way-own-refused : (q ≡ 0 → ⊥) → BoardPromise ns xs b k code (record { refusal = q; so = Released; board = b }) ys
         way-own-refused n =
-            promise-refused xs b k code q ys (sym its) n
+            promise-refused ns xs b k code q ys (sym its) n
             (left .2
-            ∙ ap slice (at-refused (chipsOf b xs) k code (sym (ap (λ (z : ℕ). eqb z 0) (left .0)) ∙ ne-eqb q 0 n))
-            ∙ slice-of (fitted b) xs whole-slice)
+            ∙ ap slice (at-refused (chipsOf b xs ns) k code (sym (ap (λ (z : ℕ). eqb z 0) (left .0)) ∙ ne-eqb q 0 n))
+            ∙ slice-of (fitted b) xs ns whole-slice)

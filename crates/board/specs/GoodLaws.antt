@@ -13,7 +13,7 @@ use Rattle.pins.specs.Sound.{sound}
 use Rattle.pins.specs.declared.state.State.{State}
 use Rattle.chip.specs.Run.{Chip}
 use Rattle.chip.specs.RunLaws.{next-sound}
-use Rattle.board.specs.Chips.{fitted, together, pieces, states, slice, withChips}
+use Rattle.board.specs.Chips.{fitted, together, serialsTogether, pieces, states, slice, withChips}
 use Rattle.board.specs.Checks.{isOwn, noBoard, allSound, checks}
 use Rattle.board.specs.CheckLaws.{few, checks-passed}
 use Rattle.board.specs.Event as event
@@ -30,42 +30,45 @@ pub record Good (h : Held) : Type 0 where
   pub some : noBoard (h .board .count) ≡ false
   pub sound : allSound (fitted (h .board)) ≡ true
   pub long : together (fitted (h .board)) ≡ length (h .slice)
+  pub numbered : serialsTogether (fitted (h .board)) ≡ length (h .serials)
 
 abbrev pub lateChecks : ℕ → ℕ → ℕ → ℕ
 lateChecks count k code = cond (isOwn code && leb count k) 14 (cond (leb 12 code) 5 0)
 
-pub good-checks : (h : Held) (k code : ℕ) → Good h → checks (h .board) (length (h .slice)) k code ≡ lateChecks (h .board .count) k code
+pub good-checks :
+    (h : Held) (k code : ℕ) → Good h
+    → checks (h .board) (length (h .slice)) (length (h .serials)) k code ≡ lateChecks (h .board .count) k code
 unfolding checks
-good-checks h k code g = rw (g .some, g .sound, eq-eqb _ _ (sym (g .long)))
+good-checks h k code g = rw (g .some, g .sound, eq-eqb _ _ (sym (g .long)), eq-eqb _ _ (sym (g .numbered)))
 
 -- what is left on a board: these chips
-abbrev pub put : Board → List Chip → Held
-put b cs = record { board = withChips b cs; slice = slice cs }
+abbrev pub put : Held → List Chip → Held
+put h cs = record { board = withChips (h .board) cs; slice = slice cs; serials = h .serials }
 
 module _ (h : Held) (e : Sent) where
   pub next-stays : eqb (refusalOf h e) 0 ≡ false → next h e ≡ h
   unfolding next
-  next-stays r = λ i. record { board = out i .board; slice = out i .slice }
+  next-stays r = λ i. record { board = out i .board; slice = out i .slice; serials = h .serials }
     where
-      out : event.event (h .slice) (h .board) (e .chip) (e .code) ≡ event.refused (refusalOf h e) (h .board) (h .slice)
-      out = event-refused (h .slice) (h .board) (e .chip) (e .code) r
+      out : event.event (h .serials) (h .slice) (h .board) (e .chip) (e .code) ≡ event.refused (refusalOf h e) (h .board) (h .slice)
+      out = event-refused (h .serials) (h .slice) (h .board) (e .chip) (e .code) r
 
-  pub next-put : refusalOf h e ≡ 0 → next h e ≡ put (h .board) (moved (e .chip) (e .code) (chips h))
+  pub next-put : refusalOf h e ≡ 0 → next h e ≡ put h (moved (e .chip) (e .code) (chips h))
   unfolding next
-  next-put r = λ i. record { board = out i .board; slice = out i .slice }
+  next-put r = λ i. record { board = out i .board; slice = out i .slice; serials = h .serials }
     where
-      out : event.event (h .slice) (h .board) (e .chip) (e .code) ≡ event.left (h .board) (moved (e .chip) (e .code) (chips h))
-      out = event-left (h .slice) (h .board) (e .chip) (e .code) r
+      out : event.event (h .serials) (h .slice) (h .board) (e .chip) (e .code) ≡ event.left (h .board) (moved (e .chip) (e .code) (chips h))
+      out = event-left (h .serials) (h .slice) (h .board) (e .chip) (e .code) r
 
   -- an accepted event passed the checks
-  pub accepted-passed : refusalOf h e ≡ 0 → checks (h .board) (length (h .slice)) (e .chip) (e .code) ≡ 0
-  accepted-passed r = go (eqb (checks (h .board) (length (h .slice)) (e .chip) (e .code)) 0) refl
+  pub accepted-passed : refusalOf h e ≡ 0 → checks (h .board) (length (h .slice)) (length (h .serials)) (e .chip) (e .code) ≡ 0
+  accepted-passed r = go (eqb (checks (h .board) (length (h .slice)) (length (h .serials)) (e .chip) (e .code)) 0) refl
     where
       go :
-          (t : Bool) → eqb (checks (h .board) (length (h .slice)) (e .chip) (e .code)) 0 ≡ t
-          → checks (h .board) (length (h .slice)) (e .chip) (e .code) ≡ 0
+          (t : Bool) → eqb (checks (h .board) (length (h .slice)) (length (h .serials)) (e .chip) (e .code)) 0 ≡ t
+          → checks (h .board) (length (h .slice)) (length (h .serials)) (e .chip) (e .code) ≡ 0
       go true p = eqb-true _ _ p
-      go false p = sym (by-checks (h .slice) (h .board) (e .chip) (e .code) p) ∙ r
+      go false p = sym (by-checks (h .serials) (h .slice) (h .board) (e .chip) (e .code) p) ∙ r
 
 -- every chip sound, every chip in its place
 sounds-every : (code : ℕ) (cs : List Chip) → allSound (states cs) ≡ true → allSound (states (every code cs)) ≡ true
@@ -83,9 +86,12 @@ sounds-at (suc k) code (c ∷ cs) s =
     both (left (sound (c .state)) (allSound (states cs)) s) (sounds-at k code cs (right (sound (c .state)) (allSound (states cs)) s))
 
 -- chips that are put on a board are there
-module _ (b : Board) (cs : List Chip) (many : length cs ≡ b .count) where
-  pub put-chips : Fit cs → chips (put b cs) ≡ cs
-  put-chips fits = ap (λ (ss : List State). pieces ss (slice cs)) (fitted-with b cs many) ∙ again cs fits
+module _ (h : Held) (cs : List Chip) (many : length cs ≡ h .board .count) where
+  abbrev b : Board
+  b = h .board
+
+  pub put-chips : Fit (h .serials) cs → chips (put h cs) ≡ cs
+  put-chips fits = ap (λ (ss : List State). pieces ss (slice cs) (h .serials)) (fitted-with b cs many) ∙ again (h .serials) cs fits
 
   put-places : b .count ≤ 8 → length (b .chips) ≡ 8 → length (withChips b cs .chips) ≡ 8
   put-places few eight =
@@ -96,7 +102,7 @@ module _ (b : Board) (cs : List Chip) (many : length cs ≡ b .count) where
       total : (n m r : ℕ) → n ≤ 8 → m ≡ 8 → r ≡ m - n → n + r ≡ 8
       total n m r f e d = omega (arith, f, e, d)
 
-  pub put-put : (ds : List Chip) → put (withChips b cs) ds ≡ put b ds
+  pub put-put : (ds : List Chip) → put (put h cs) ds ≡ put h ds
   put-put ds = λ i.
       record {
         board =
@@ -105,15 +111,17 @@ module _ (b : Board) (cs : List Chip) (many : length cs ≡ b .count) where
               chips = states ds ++ drop-at (states cs) (drop (b .count) (b .chips)) (b .count) (many-states cs ∙ many) i;
             };
         slice = slice ds;
+        serials = h .serials;
       }
 
-  pub good-put : noBoard (b .count) ≡ false → length (b .chips) ≡ 8 → Fit cs → allSound (states cs) ≡ true → Good (put b cs)
+  pub good-put : noBoard (b .count) ≡ false → length (b .chips) ≡ 8 → Fit (h .serials) cs → allSound (states cs) ≡ true → Good (put h cs)
   good-put some eight fits s =
       record {
         eight = put-places (few (b .count) some) eight;
         some = some;
         sound = ap allSound (fitted-with b cs many) ∙ s;
-        long = ap together (fitted-with b cs many) ∙ long-fit cs fits;
+        long = ap together (fitted-with b cs many) ∙ long-fit (h .serials) cs fits .0;
+        numbered = ap serialsTogether (fitted-with b cs many) ∙ long-fit (h .serials) cs fits .1;
       }
 
 -- the chips of a good board, moved
@@ -122,13 +130,13 @@ module _ (h : Held) (g : Good h) where
   places = subst (λ (n : ℕ). h .board .count ≤ n) (sym (g .eight)) (few (h .board .count) (g .some))
 
   pub many : length (chips h) ≡ h .board .count
-  many = many-pieces (fitted (h .board)) (h .slice) ∙ length-take-le (h .board .count) (h .board .chips) places
+  many = many-pieces (fitted (h .board)) (h .slice) (h .serials) ∙ length-take-le (h .board .count) (h .board .chips) places
 
-  fit : Fit (chips h)
-  fit = pieces-fit (fitted (h .board)) (h .slice) (g .long)
+  fit : Fit (h .serials) (chips h)
+  fit = pieces-fit (fitted (h .board)) (h .slice) (h .serials) (g .long) (g .numbered)
 
   sounds : allSound (states (chips h)) ≡ true
-  sounds = ap allSound (states-of (fitted (h .board)) (h .slice)) ∙ g .sound
+  sounds = ap allSound (states-of (fitted (h .board)) (h .slice) (h .serials)) ∙ g .sound
 
   pub many-moved : (k code : ℕ) → length (moved k code (chips h)) ≡ h .board .count
   many-moved k code = go (isOwn code)
@@ -137,12 +145,12 @@ module _ (h : Held) (g : Good h) where
       go true = many-at k code (chips h) ∙ many
       go false = many-every code (chips h) ∙ many
 
-  fit-moved : (k code : ℕ) → Fit (moved k code (chips h))
+  fit-moved : (k code : ℕ) → Fit (h .serials) (moved k code (chips h))
   fit-moved k code = go (isOwn code)
     where
-      go : (t : Bool) → Fit (cond t (at k code (chips h)) (every code (chips h)))
-      go true = at-fits k code (chips h) fit
-      go false = every-fits code (chips h) fit
+      go : (t : Bool) → Fit (h .serials) (cond t (at k code (chips h)) (every code (chips h)))
+      go true = at-fits (h .serials) k code (chips h) fit
+      go false = every-fits (h .serials) code (chips h) fit
 
   sounds-moved : (k code : ℕ) → allSound (states (moved k code (chips h))) ≡ true
   sounds-moved k code = go (isOwn code)
@@ -154,7 +162,7 @@ module _ (h : Held) (g : Good h) where
   pub moved-chips : (e : Sent) → refusalOf h e ≡ 0 → chips (next h e) ≡ moved (e .chip) (e .code) (chips h)
   moved-chips e r =
       ap chips (next-put h e r)
-      ∙ put-chips (h .board) (moved (e .chip) (e .code) (chips h)) (many-moved (e .chip) (e .code)) (fit-moved (e .chip) (e .code))
+      ∙ put-chips h (moved (e .chip) (e .code) (chips h)) (many-moved (e .chip) (e .code)) (fit-moved (e .chip) (e .code))
 
   -- accepted or refused, a good board stays good
   pub good-next : (e : Sent) → Good (next h e)
@@ -163,12 +171,12 @@ module _ (h : Held) (g : Good h) where
       go : (t : Bool) → eqb (refusalOf h e) 0 ≡ t → Good (next h e)
       go true p =
           subst Good (sym (next-put h e (eqb-true _ _ p)))
-          (good-put (h .board) (moved (e .chip) (e .code) (chips h)) (many-moved (e .chip) (e .code)) (g .some) (g .eight)
+          (good-put h (moved (e .chip) (e .code) (chips h)) (many-moved (e .chip) (e .code)) (g .some) (g .eight)
           (fit-moved (e .chip) (e .code)) (sounds-moved (e .chip) (e .code)))
       go false p = subst Good (sym (next-stays h e p)) g
 
 -- a board that an event was accepted on is good
 pub good-from : (h : Held) (e : Sent) → length (h .board .chips) ≡ 8 → refusalOf h e ≡ 0 → Good h
 good-from h e eight r =
-    let passed = checks-passed (h .board) (length (h .slice)) (e .chip) (e .code) (accepted-passed h e r) in
-    record { eight = eight; some = passed .some; sound = passed .sound; long = passed .long }
+    let passed = checks-passed (h .board) (length (h .slice)) (length (h .serials)) (e .chip) (e .code) (accepted-passed h e r) in
+    record { eight = eight; some = passed .some; sound = passed .sound; long = passed .long; numbered = passed .numbered }

@@ -12,9 +12,9 @@ use Rattle.board.specs.declared.event.BoardAnswer.{BoardAnswer}
 use Rattle.board.specs.declared.power.Plan.{Plan}
 use Rattle.board.specs.declared.power.PoweredBoard.{PoweredBoard}
 
-module _ (xs : List ℕ) (b : Board) (k code : ℕ) where
+module _ (serials xs : List ℕ) (b : Board) (k code : ℕ) where
   pub event-sole :
-      (a c : BoardAnswer) (ys zs : List ℕ) → BoardPromise xs b k code a ys → BoardPromise xs b k code c zs
+      (a c : BoardAnswer) (ys zs : List ℕ) → BoardPromise serials xs b k code a ys → BoardPromise serials xs b k code c zs
       → (a ≡ c) × (ys ≡ zs)
   event-sole a c ys zs p q = (
     λ i. record { refusal = sole (p .0) (q .0) i; so = so-sole (a .so) (c .so) (sole (p .1) (q .1)) i; board = sole (p .2) (q .2) i },

@@ -1,5 +1,5 @@
--- "Power-up: 13, 1, 2, 3, each over all chips." Assumes nothing.
-use Prim.Native.Nat.{ℕ, _+_}
+-- "Power-up: 13, 1, 2, 3, each over all chips." It "takes no serial" (Wish 8). Assumes nothing.
+use Prim.Native.Nat.{ℕ}
 use mathlib.Core.Bool.{Bool, true, false, cond, not, _&&_}
 use mathlib.Core.List.{List, [], _∷_, _++_}
 use lib.Dec.{eqb}
@@ -8,7 +8,7 @@ use Rattle.parts.specs.Figures.{isPart, inMask}
 use Rattle.pins.specs.Levels.{atRest}
 use Rattle.pins.specs.declared.state.State.{State}
 use Rattle.chip.specs.Power as chip
-use Rattle.board.specs.Chips.{pieceLength}
+use Rattle.board.specs.Chips.{pieceLength, sum}
 use Rattle.board.specs.Checks.{noBoard}
 use Rattle.board.specs.declared.power.Asked.{Asked}
 use Rattle.board.specs.declared.power.Plan.{Plan}
@@ -22,9 +22,8 @@ unfoldable pub allParts : List Asked → Bool
 allParts [] = true
 allParts (a ∷ more) = isPart (a .part) && allParts more
 
-unfoldable pub togetherAsked : List Asked → ℕ
-togetherAsked [] = 0
-togetherAsked (a ∷ more) = pieceLength (a .part) + togetherAsked more
+abbrev pub togetherAsked : List Asked → ℕ
+togetherAsked qs = sum (λ a. pieceLength (a .part)) qs
 
 unfoldable pub allMasked : List Asked → Bool
 allMasked [] = true

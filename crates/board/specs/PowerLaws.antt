@@ -4,14 +4,14 @@ use native.Mathlib.Nat.{le-antisymm, lt-of-lt-of-le}
 use native.Mathlib.Omega.{arith}
 use mathlib.Core.Path.{_≡_, refl, sym, ap, subst, _∙_}
 use mathlib.Core.Bool.{Bool, true, false, cond, not}
-use mathlib.Core.List.{List, [], _∷_, _++_}
+use mathlib.Core.List.{List, _∷_, _++_}
 use lib.Dec.{eqb}
 use lib.ListN.{length, take, drop, getD, set, length-set, take-append-drop}
 use lib.Seq.{drop-drop}
 use borrow.Author.Tests.{eqb-true, eqb-false}
 use Rattle.pins.specs.declared.state.State.{State}
 use Rattle.chip.specs.Power as chip
-use Rattle.board.specs.Chips.{pieceLength}
+use Rattle.board.specs.Chips.{pieceLength, sum}
 use Rattle.board.specs.Checks.{noBoard}
 use Rattle.board.specs.CheckLaws.{few}
 use Rattle.board.specs.Power.{asked, allParts, allMasked, togetherAsked, powerRefusal, powered, spare, powerUp}
@@ -55,7 +55,7 @@ module _ (p : Plan) (xs : List ℕ) (n : ℕ) where
       on = rest-next (p .chips) n (g .places) i d h
 
       long : start + (size + togetherAsked more) ≡ length xs
-      unfolding togetherAsked
+      unfolding sum
       long = sym (ap (λ (qs : List Asked). start + togetherAsked qs) on) ∙ g .long
 
       pub asked-inside : (m : ℕ) → m ≡ size → start + m ≤ length xs

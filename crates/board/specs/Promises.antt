@@ -7,10 +7,10 @@ use Rattle.board.specs.So.{soNumber}
 use Rattle.board.specs.declared.chips.Board.{Board}
 use Rattle.board.specs.declared.event.BoardAnswer.{BoardAnswer}
 
--- an event on the slice xs, on the board b: the answer a in the paper's numbers, and the slice ys
-abbrev pub BoardPromise : List ℕ → Board → ℕ → ℕ → BoardAnswer → List ℕ → Type 0
-BoardPromise xs b k code a ys =
-    (a .refusal ≡ event xs b k code .refusal)
-    × (soNumber (a .so) ≡ soNumber (event xs b k code .so))
-    × (a .board ≡ event xs b k code .board)
-    × (ys ≡ event xs b k code .slice)
+-- an event on the slice xs, with the serials, on the board b: the answer a in the paper's numbers, and the slice ys
+abbrev pub BoardPromise : List ℕ → List ℕ → Board → ℕ → ℕ → BoardAnswer → List ℕ → Type 0
+BoardPromise serials xs b k code a ys =
+    (a .refusal ≡ event serials xs b k code .refusal)
+    × (soNumber (a .so) ≡ soNumber (event serials xs b k code .so))
+    × (a .board ≡ event serials xs b k code .board)
+    × (ys ≡ event serials xs b k code .slice)

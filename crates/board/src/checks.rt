@@ -38,9 +38,9 @@ fn all_sound(board: Board) -> bool
     true
 }
 
-// 13, 14, 4, 2, 5; 0 where none of them is given.
-pub(crate) fn checks(board: Board, len: usize, chip: usize, code: u64) -> u8
-    ensures { λ r. ⌜ r ≡ checks board len chip code ⌝ }
+// 13, 14, 4, 2, 15, 5; 0 where none of them is given.
+pub(crate) fn checks(board: Board, len: usize, serials: usize, chip: usize, code: u64) -> u8
+    ensures { λ r. ⌜ r ≡ checks board len serials chip code ⌝ }
 {
     let count = board.count;
     if no_board(count) {
@@ -52,8 +52,12 @@ pub(crate) fn checks(board: Board, len: usize, chip: usize, code: u64) -> u8
     if !all_sound(board) {
         return 4;
     }
-    if len != together(board, count) {
+    let whole = together(board, count);
+    if len != whole.array {
         return 2;
+    }
+    if serials != whole.serials {
+        return 15;
     }
     if 12 <= code {
         return 5;

@@ -1,8 +1,8 @@
-// The board's chips, and the pieces of the lent slice that are their arrays.
+// The board's chips, and the pieces of the lent slices that are theirs: their arrays, and their serial numbers.
 ghost use mathlib.Core.Path.{_≡_};
 ghost use Prim.Native.Nat.{_≤_};
 ghost use lib.ListN.{take};
-ghost use Rattle.board.specs.Chips.{pieceLength, together};
+ghost use Rattle.board.specs.Chips.{pieceLength, serialLength, serialsTogether, together};
 use parts::figures::figure_of;
 use pins::state::State;
 
@@ -16,30 +16,43 @@ pub struct Board {
     pub chips: [State; MOST],
 }
 
-// How long a chip's piece of the slice is.
-pub(crate) fn piece_length(part: u64) -> usize
-    ensures { λ r. ⌜ r ≡ pieceLength part ⌝ }
+// How many bytes are a chip's, or those of chips together: of the slice, and of the serials.
+pub(crate) struct Lengths {
+    pub(crate) array: usize,
+    pub(crate) serials: usize,
+}
+
+// A part's, by its number.
+pub(crate) fn part_lengths(part: u64) -> Lengths
+    ensures { λ r. ⌜ (r .array ≡ pieceLength part) × (r .serials ≡ serialLength part) ⌝ }
 {
     let f = figure_of(part);
-    f.size
+    Lengths {
+        array: f.size,
+        serials: f.serial,
+    }
 }
 
-pub(crate) fn piece_of(state: State) -> usize
-    ensures { λ r. ⌜ r ≡ pieceLength (state .part) ⌝ }
+// Those of a chip, by its state.
+pub(crate) fn lengths_of(state: State) -> Lengths
+    ensures { λ r. ⌜ (r .array ≡ pieceLength (state .part)) × (r .serials ≡ serialLength (state .part)) ⌝ }
 {
-    piece_length(state.part as u64)
+    part_lengths(state.part as u64)
 }
 
-// How long the pieces of the first so many chips are together: where the next one's begins.
-pub(crate) fn together(board: Board, count: usize) -> usize
+// How long the pieces of the first so many chips are together: where the next one's begin.
+pub(crate) fn together(board: Board, count: usize) -> Lengths
     requires { ⌜ count ≤ 8 ⌝ }
-    ensures { λ r. ⌜ r ≡ together (take count (board .chips)) ⌝ }
+    ensures { λ r. ⌜ (r .array ≡ together (take count (board .chips))) × (r .serials ≡ serialsTogether (take count (board .chips))) ⌝ }
 {
-    let mut sum = 0;
+    let mut array = 0;
+    let mut serials = 0;
     let mut i = 0;
     while i < count {
-        sum += piece_of(board.chips[i]);
+        let own = lengths_of(board.chips[i]);
+        array += own.array;
+        serials += own.serials;
         i += 1;
     }
-    sum
+    Lengths { array, serials }
 }

@@ -8,7 +8,7 @@ ghost use Rattle.board.specs.Power.{asked, allParts, allMasked, together
 use crate::checks::no_board;
 use crate::chips::Board;
 use crate::chips::MOST;
-use crate::chips::piece_length;
+use crate::chips::part_lengths;
 use chip::power::power_up as chip_power_up;
 use parts::figures::figure_of;
 use parts::figures::is_part;
@@ -79,7 +79,8 @@ fn together_asked(plan: Plan) -> usize
     let mut sum = 0;
     let mut i = 0;
     while i < count {
-        sum += piece_length(plan.chips[i].part);
+        let own = part_lengths(plan.chips[i].part);
+        sum += own.array;
         i += 1;
     }
     sum
@@ -114,7 +115,8 @@ fn power_each(plan: Plan, array: &[u8]) -> [State; MOST]
     let mut i = 0;
     while i < count {
         let one = plan.chips[i];
-        let end = start + piece_length(one.part);
+        let own = part_lengths(one.part);
+        let end = start + own.array;
         let powered = chip_power_up(one.part, one.kept, &array[start..end]);
         let state = powered.state;
         chips[i] = state;

@@ -1,7 +1,8 @@
-// A board of three different parts: chip 0 is part 1, chip 1 part 2 and chip 2 part 3. Each line of the file `stdout` was worked
-// out by hand from documents 01 and 02; the comment above a call says why. A text has four places an entry: `e21` is event 1 of
-// chip 2, which at a shared line says nothing; `b06` clocks in the byte 06h, eight times SI, SCK up, SCK down. What is printed is
-// the board's SO after an event, and after each fall of a byte: 0, 1, 2 released, 3 fight; or ! and the refusal.
+// A board of three different parts: chip 0 is part 1, chip 1 part 2 and chip 2 part 3; then one of parts 5, 1 and 5. Each line of
+// the file `stdout` was worked out by hand from documents 01 and 02; the comment above a call says why. A text has four places an
+// entry: `e21` is event 1 of chip 2, which at a shared line says nothing; `b06` clocks in the byte 06h, eight times SI, SCK up, SCK
+// down. What is printed is the board's SO after an event, and after each fall of a byte: 0, 1, 2 released, 3 fight; or ! and the
+// refusal.
 use board::chips::Board;
 use board::event::event;
 use board::power::Asked;
@@ -25,6 +26,7 @@ fn main() {
     refused(board, &mut array);
     not_this_slice(board);
     refused_power_ups(&array);
+    numbered();
 }
 
 // Chip 0 has its latch set. Its RDSR is open when chip 1 is selected too: the next eight clocks show chip 0's bits 6 to 0 of 02h
@@ -94,12 +96,27 @@ fn refused(board: Board, array: &mut [u8]) {
     play(b"fourteen", board, array, b"e30 e34");
 }
 
-// One byte short: 2 comes before 5 and after 14. Chip 2's kept bit 0 is outside the mask: 4 for any chip's event, after 14 and
-// before 2. 13 comes before 14.
+// One byte short: 2 comes before 5 and after 14. No chip is a part 5, so one byte of serials is too many: 15, before 5 and after
+// 14. Chip 2's kept bit 0 is outside the mask: 4 for any chip's event, after 14 and before 2 and 15. 13 comes before 14.
 fn not_this_slice(board: Board) {
     play(b"short slice", board, &mut [0u8; 3071], b"e00 e0c e30");
+    let one = &[0u8; 1];
+    play_with(
+        b"a byte of serials",
+        board,
+        &mut [0u8; 3072],
+        one,
+        b"e00 e0c e30",
+    );
     let unsound = spoilt(board);
     play(b"unsound", unsound, &mut [0u8; 3072], b"e00 e30");
+    play_with(
+        b"unsound, a byte of serials",
+        unsound,
+        &mut [0u8; 3072],
+        one,
+        b"e00",
+    );
     play(b"unsound, short slice", unsound, &mut [0u8; 3071], b"e0c");
     play(b"no chips", counted(board, 0), &mut [0u8; 3072], b"e34 e30");
     play(b"nine chips", counted(unsound, 9), &mut [0u8; 3072], b"e90");
@@ -114,6 +131,90 @@ fn refused_power_ups(array: &[u8]) {
     power(b"a slice too short", plan(3, 0x01, 3), &[0u8; 3071]);
     let board = power(b"kept bits first", plan(3, 0x01, 3), array);
     play(b"what it returns", board, &mut [0u8; 3072], b"e34");
+}
+
+// "eight bytes for each part 5 chip in chip order": the second eight are chip 2's, FEh to 10h. Its SNR shows bit 7 of FEh at the last
+// fall of C3h, then each byte's other bits and bit 7 of the next, and releases SO after the last. Chip 0's begins with 01h and 23h.
+// Chip 1 is part 1, where C3h does nothing. Both part 5 chips at once fight; when chip 0 is closed, chip 2 shows bit 7 of DCh.
+fn numbered() {
+    let mut array = [0u8; 33280];
+    let serials = b"\x01\x23\x45\x67\x89\xAB\xCD\xEF\xFE\xDC\xBA\x98\x76\x54\x32\x10";
+    let board = power(b"power-up of parts 5, 1 and 5", fives(), &array);
+    let board = play_with(
+        b"serial number of chip 2",
+        board,
+        &mut array,
+        serials,
+        b"e20 bc3 b00 b00 b00 b00 b00 b00 b00 b00 e21",
+    );
+    let board = play_with(
+        b"and of chip 0",
+        board,
+        &mut array,
+        serials,
+        b"e00 bc3 b00 e01",
+    );
+    let board = play_with(
+        b"and of part 1",
+        board,
+        &mut array,
+        serials,
+        b"e10 bc3 b00 e11",
+    );
+    let board = play_with(
+        b"both at once",
+        board,
+        &mut array,
+        serials,
+        b"e00 e20 bc3 b00 e01 e21",
+    );
+    fifteen(board);
+    fifteen_with_power_off(board);
+}
+
+// 16 bytes and no other number, for an own line and for a shared one. 15 comes before 5, after 14 and after 2.
+fn fifteen(board: Board) {
+    let few = &[0u8; 15];
+    play_with(
+        b"fifteen bytes",
+        board,
+        &mut [0u8; 33280],
+        few,
+        b"e00 e04 e0c e30",
+    );
+    play_with(
+        b"and a short slice",
+        board,
+        &mut [0u8; 33279],
+        few,
+        b"e00 e30",
+    );
+    play_with(
+        b"seventeen bytes",
+        board,
+        &mut [0u8; 33280],
+        &[0u8; 17],
+        b"e20 e04",
+    );
+}
+
+// It is given with power off too.
+fn fifteen_with_power_off(board: Board) {
+    let mut array = [0u8; 33280];
+    let off = play_with(b"power off", board, &mut array, &[0u8; 16], b"e0a");
+    play_with(
+        b"fifteen bytes, power off",
+        off,
+        &mut array,
+        &[0u8; 15],
+        b"e04",
+    );
+}
+
+fn fives() -> Plan {
+    let mut chips = [Asked { part: 5, kept: 0 }; 8];
+    chips[1] = Asked { part: 1, kept: 0 };
+    Plan { count: 3, chips }
 }
 
 // Parts 1, 2 and the last one, with kept bits 0Ch on the second and 80h on the last.
@@ -152,8 +253,13 @@ fn counted(board: Board, count: usize) -> Board {
     Board { count, chips }
 }
 
-// The entries of a text one after the other, and what each showed.
+// With no serials: no chip is a part 5.
 fn play(name: &[u8], board: Board, array: &mut [u8], text: &[u8]) -> Board {
+    play_with(name, board, array, &[], text)
+}
+
+// The entries of a text one after the other, and what each showed.
+fn play_with(name: &[u8], board: Board, array: &mut [u8], serials: &[u8], text: &[u8]) -> Board {
     io::write_all(STDOUT_FILENO, name);
     io::write_all(STDOUT_FILENO, b":");
     let mut board = board;
@@ -163,6 +269,7 @@ fn play(name: &[u8], board: Board, array: &mut [u8], text: &[u8]) -> Board {
         board = entry(
             board,
             array,
+            serials,
             text[i],
             digit_at(text, i + 1),
             digit_at(text, i + 2),
@@ -173,11 +280,11 @@ fn play(name: &[u8], board: Board, array: &mut [u8], text: &[u8]) -> Board {
     board
 }
 
-fn entry(board: Board, array: &mut [u8], kind: u8, x: u8, y: u8) -> Board {
+fn entry(board: Board, array: &mut [u8], serials: &[u8], kind: u8, x: u8, y: u8) -> Board {
     if kind == b'b' {
-        byte(board, array, x as u64 * 16 + y as u64)
+        byte(board, array, serials, x as u64 * 16 + y as u64)
     } else {
-        one(board, array, x as usize, y as u64)
+        one(board, array, serials, x as usize, y as u64)
     }
 }
 
@@ -196,8 +303,8 @@ fn digit_at(text: &[u8], i: usize) -> u8 {
 }
 
 // One event, and what it showed.
-fn one(board: Board, array: &mut [u8], chip: usize, code: u64) -> Board {
-    let answer = event(board, array, chip, code);
+fn one(board: Board, array: &mut [u8], serials: &[u8], chip: usize, code: u64) -> Board {
+    let answer = event(board, array, serials, chip, code);
     if answer.refusal == 0 {
         let so = answer.so;
         say(b"", number(so));
@@ -208,14 +315,14 @@ fn one(board: Board, array: &mut [u8], chip: usize, code: u64) -> Board {
 }
 
 // Eight times SI, SCK up, SCK down.
-fn byte(board: Board, array: &mut [u8], value: u64) -> Board {
+fn byte(board: Board, array: &mut [u8], serials: &[u8], value: u64) -> Board {
     let mut board = board;
     let mut value = value;
     let mut i: usize = 0;
     while i < 8 {
-        let si = event(board, array, 0, 4 + value / 128 % 2);
-        let up = event(si.board, array, 0, 3);
-        board = one(up.board, array, 0, 2);
+        let si = event(board, array, serials, 0, 4 + value / 128 % 2);
+        let up = event(si.board, array, serials, 0, 3);
+        board = one(up.board, array, serials, 0, 2);
         value = value % 128 * 2;
         i += 1;
     }

@@ -1,4 +1,5 @@
-// The board's event call as C sees it, for speed/: from power-up of part 1 chips with kept bits 0, over the lent slice.
+// The board's event call as C sees it, for speed/: from power-up of part 1 chips with kept bits 0, over the lent slice and with
+// no serials.
 use board::event::event;
 use board::power::Asked;
 use board::power::Plan;
@@ -20,7 +21,7 @@ pub extern "C" fn by_board(count: usize, codes: &[u64], array: &mut [u8]) -> u64
     let mut i = 0;
     while i < codes.len() {
         let after = i + 1;
-        let answer = event(board, array, 0, codes[i]);
+        let answer = event(board, array, &[], 0, codes[i]);
         if answer.refusal != 0 {
             return number(answer.refusal);
         }

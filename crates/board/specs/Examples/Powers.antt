@@ -48,7 +48,7 @@ powers =
     -- 13 before 1, 2, 3
     fails 0 [] 0 13 ∷ fails 0 (ask 1 0 ∷ []) 512 13 ∷ fails 9 (ask 9 0 ∷ []) 1 13
     -- 1 of any chip, before 2 and 3 of any other
-    ∷ fails 1 (ask 0 0 ∷ []) 512 1 ∷ fails 2 (ask 1 0x01 ∷ ask 9 0 ∷ []) 0 1 ∷ fails 2 (ask 5 0 ∷ ask 1 0 ∷ []) 1024 1
+    ∷ fails 1 (ask 0 0 ∷ []) 512 1 ∷ fails 2 (ask 1 0x01 ∷ ask 9 0 ∷ []) 0 1 ∷ fails 2 (ask 6 0 ∷ ask 1 0 ∷ []) 1024 1
     ∷ fails 2 (ask 1 0 ∷ []) 512 1
     -- 2: all pieces together; before 3
     ∷ fails 2 (ask 1 0 ∷ ask 3 0x8C ∷ []) 2559 2 ∷ fails 2 (ask 1 0 ∷ ask 3 0x8C ∷ []) 2561 2 ∷ fails 2 (ask 1 0x01 ∷ ask 1 0 ∷ []) 512 2
@@ -57,5 +57,7 @@ powers =
     ∷ starts (ask 1 0x0C ∷ ask 3 0x8C ∷ []) 2560 (atRest 1 0x0C true ∷ atRest 3 0x8C true ∷ [])
     ∷ starts (ask 2 0x08 ∷ []) 512 (atRest 2 0x08 true ∷ [])
     ∷ starts (ask 4 0x8C ∷ ask 1 0 ∷ []) 16896 (atRest 4 0x8C true ∷ atRest 1 0 true ∷ [])
+    -- part 5 "takes no serial"
+    ∷ starts (ask 5 0x8C ∷ ask 1 0 ∷ []) 16896 (atRest 5 0x8C true ∷ atRest 1 0 true ∷ [])
     ∷ starts (replicate 8 (ask 1 0)) 4096 (replicate 8 (atRest 1 0 true))
     ∷ []

@@ -34,11 +34,11 @@ pub record Ran : Type 0 where
 abbrev ran : Held → List Sent → Ran
 ran h [] = record { told = []; slice = h .slice }
 ran h (e ∷ es) =
-    let o = event (h .slice) (h .board) (e .chip) (e .code) in
-    let r = ran (record { board = o .board; slice = o .slice }) es in
+    let o = event (h .serials) (h .slice) (h .board) (e .chip) (e .code) in
+    let r = ran (record { board = o .board; slice = o .slice; serials = h .serials }) es in
     record { told = told o (r .told); slice = r .slice }
 
--- parts 1 and 3 with no kept bits, over a slice of 00
+-- parts 1 and 3 with no kept bits, over a slice of 00; neither has a serial number
 abbrev plan : Plan
 plan = record { count = 2; chips = record { part = 1; kept = 0 } ∷ replicate 7 (record { part = 3; kept = 0 }) }
 
@@ -55,7 +55,7 @@ holds c r = same (r .told) (c .told) && same (r .slice) (c .slice)
 
 abbrev pub allRun : List Case → Bool
 allRun [] = true
-allRun (c ∷ cs) = holds c (ran (fromPowerUp plan blank) (c .events)) && allRun cs
+allRun (c ∷ cs) = holds c (ran (fromPowerUp plan blank []) (c .events)) && allRun cs
 
 abbrev runs : List Sent → List ℕ → List ℕ → Case
 runs events told slice = record { events = events; told = told; slice = slice }

@@ -7,10 +7,10 @@ use Rattle.timed_board.proofs.by_board.Statement.{statement}
 use Rattle.timed_board.proofs.by_board.Tie as tie
 
 abbrev Inv-loop : tie.InvT-loop
-Inv-loop count codes array₀ board₀ i₀ array board i = (i ≤ length codes) × (length array ≡ length array₀)
+Inv-loop count codes array₀ board₀ i₀ t10 array board i = (i ≤ length codes) × (length array ≡ length array₀)
 
 abbrev μ-loop : tie.MeasureT-loop
-μ-loop count codes array₀ board₀ i₀ array board i = length codes - i
+μ-loop count codes array₀ board₀ i₀ t10 array board i = length codes - i
 
 loop-holds : tie.Need-loop-holds Inv-loop μ-loop
 loop-holds c = (zero-le, refl)
@@ -19,6 +19,6 @@ pub by-board-spec : {M : Type 1} → statement M
 by-board-spec =
     tie.close
     (tie.spec
-    Inv-loop μ-loop (λ c κs. search needs) loop-holds (λ c. search needs) (λ c. search needs) (λ c. search needs)
+    Inv-loop μ-loop (λ c κs. search needs) loop-holds (λ c. search needs) (λ c. search needs) (λ c. search needs) (λ c. search needs)
     (λ c κs. search needs) (λ c κs. search needs) (λ c. search needs) (λ c. search needs) (λ c. search needs)
     (λ c. search needs) (λ c. search needs) (λ c. search needs))

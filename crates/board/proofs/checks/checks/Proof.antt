@@ -37,7 +37,7 @@ together-requires c κs =
 returns-4 : tie.Need-returns-4
 unfolding checks
 returns-4 c =
-    let d = c .before .before in
+    let d = c .before .before .before in
     let b = d .before .before in
     let a = b .before .before in
     simp (
@@ -47,15 +47,15 @@ returns-4 c =
       b .if2 .left,
       ← d .before .all-sound .ensures,
       d .if3 .left,
-      ← c .before .together .ensures,
+      ← c .before .before .together .ensures .0,
       ne-eqb _ _ (c .if4 .taken),
     )
 
 returns-5 : tie.Need-returns-5
 unfolding checks
 returns-5 c =
-    let e = c .before in
-    let d = e .before .before in
+    let e = c .before .before in
+    let d = e .before .before .before in
     let b = d .before .before in
     let a = b .before .before in
     simp (
@@ -65,16 +65,18 @@ returns-5 c =
       b .if2 .left,
       ← d .before .all-sound .ensures,
       d .if3 .left,
-      ← e .before .together .ensures,
+      ← e .before .before .together .ensures .0,
       eq-eqb _ _ (e .if4 .left),
-      le-leb _ _ (c .if5 .taken),
+      ← e .before .before .together .ensures .1,
+      ne-eqb _ _ (c .if5 .taken),
     )
 
 returns-6 : tie.Need-returns-6
 unfolding checks
 returns-6 c =
-    let e = c .before in
-    let d = e .before .before in
+    let f = c .before in
+    let e = f .before .before in
+    let d = e .before .before .before in
     let b = d .before .before in
     let a = b .before .before in
     simp (
@@ -84,9 +86,33 @@ returns-6 c =
       b .if2 .left,
       ← d .before .all-sound .ensures,
       d .if3 .left,
-      ← e .before .together .ensures,
+      ← e .before .before .together .ensures .0,
       eq-eqb _ _ (e .if4 .left),
-      lt-leb _ _ (c .if5 .left),
+      ← e .before .before .together .ensures .1,
+      eq-eqb _ _ (f .if5 .left),
+      le-leb _ _ (c .if6 .taken),
+    )
+
+returns-7 : tie.Need-returns-7
+unfolding checks
+returns-7 c =
+    let f = c .before in
+    let e = f .before .before in
+    let d = e .before .before .before in
+    let b = d .before .before in
+    let a = b .before .before in
+    simp (
+      ← a .before .no-board .ensures,
+      a .if1 .left,
+      ← b .before .is-own .ensures,
+      b .if2 .left,
+      ← d .before .all-sound .ensures,
+      d .if3 .left,
+      ← e .before .before .together .ensures .0,
+      eq-eqb _ _ (e .if4 .left),
+      ← e .before .before .together .ensures .1,
+      eq-eqb _ _ (f .if5 .left),
+      lt-leb _ _ (c .if6 .left),
     )
 
 pub checks-spec : {M : Type 1} → statement M
@@ -94,4 +120,4 @@ checks-spec =
     tie.close
     (tie.spec
     (λ c κs. search needs) returns (λ c κs. search needs) returns-2 all-sound-requires returns-3 together-requires returns-4
-    returns-5 returns-6)
+    returns-5 returns-6 returns-7)

@@ -29,27 +29,27 @@ element-copy-out-one c = omega (arith, c .loop-test .taken, c .before .before .b
 
 add-end : tie.Need-add-end Inv-loop μ-loop
 add-end c =
-    let l = c .before .before .before in
+    let l = c .before .before .before .before in
     record {
       fits =
-          lt-of-le-of-lt (asked-inside _ _ _ _ _ _ (l .loop .inv) _ (c .before .before .loop-test .taken) _ (c .piece-length .ensures))
+          lt-of-le-of-lt (asked-inside _ _ _ _ _ _ (l .loop .inv) _ (c .before .before .before .loop-test .taken) _ (c .before .part-lengths .ensures .0))
           (l .before .before .before .good .1 .0 .0);
     }
 
 part-power-up-end : tie.Need-part-power-up-end Inv-loop μ-loop
 part-power-up-end c =
-    let l = c .before .before .before in
-    asked-inside _ _ _ _ _ _ (l .loop .inv) _ (c .before .before .loop-test .taken) _ (c .piece-length .ensures)
+    let l = c .before .before .before .before in
+    asked-inside _ _ _ _ _ _ (l .loop .inv) _ (c .before .before .before .loop-test .taken) _ (c .before .part-lengths .ensures .0)
 
 array-set-from-chips : tie.Need-array-set-from-chips Inv-loop μ-loop
 array-set-from-chips c =
-    let l = c .before .before .before .before .before in
+    let l = c .before .before .before .before .before .before in
     omega (arith, l .loop-test .taken, l .before .before .before .before .pre .0)
 
 loop-again : tie.Need-loop-again Inv-loop μ-loop
 loop-again c =
-    let l = c .before .before .before .before .before in
-    powering-on _ _ _ _ _ _ (l .before .loop .inv) _ (l .loop-test .taken) _ (c .before .before .before .piece-length .ensures) _
+    let l = c .before .before .before .before .before .before in
+    powering-on _ _ _ _ _ _ (l .before .loop .inv) _ (l .loop-test .taken) _ (c .before .before .before .before .part-lengths .ensures .0) _
     (ap (λ (q : Powered). q .state) (c .before .power-up .ensures))
 
 returns : tie.Need-returns Inv-loop μ-loop
