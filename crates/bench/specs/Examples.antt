@@ -105,7 +105,7 @@ traces =
     -- "9 is given .. by replay for a leading number above 267, as it is read": before the second number, which is cut off, and
     -- before 1; "8 now speaks of over four bytes"
     ∷ record { trace = 0x8C ∷ 0x02 ∷ 0x80 ∷ []; prints = ascii "end kept 00 latch 0 refused 9\n" }
-    ∷ record { trace = 0x05 ∷ 0x8C ∷ 0x02 ∷ []; prints = ascii "end kept 00 latch 0 refused 9\n" }
+    ∷ record { trace = 0x06 ∷ 0x8C ∷ 0x02 ∷ []; prints = ascii "end kept 00 latch 0 refused 9\n" }
     ∷ record { trace = 0x01 ∷ 0xFF ∷ 0xFF ∷ 0xFF ∷ 0x7F ∷ []; prints = ascii "end kept 00 latch 0 refused 9\n" }
     ∷ record { trace = 0x01 ∷ 0x80 ∷ 0x80 ∷ 0x80 ∷ 0x80 ∷ 0x01 ∷ []; prints = ascii "end kept 00 latch 0 refused 8\n" }
     -- WREN and a number that is cut off: 8, and the latch is set
@@ -118,7 +118,7 @@ traces =
     }
     -- "a kept number over 255 is 3, after 1"; line 1 is "absent if power-up isn't reached"
     ∷ record { trace = 0x03 ∷ 0x80 ∷ 0x02 ∷ 0x00 ∷ []; prints = ascii "end kept 00 latch 0 refused 3\n" }
-    ∷ record { trace = 0x05 ∷ 0x80 ∷ 0x02 ∷ 0x00 ∷ []; prints = ascii "end kept 00 latch 0 refused 1\n" }
+    ∷ record { trace = 0x06 ∷ 0x80 ∷ 0x02 ∷ 0x00 ∷ []; prints = ascii "end kept 00 latch 0 refused 1\n" }
     -- ""end" in place of either is refusal 8"
     ∷ record { trace = []; prints = ascii "end kept 00 latch 0 refused 8\n" }
     ∷ record { trace = 0x01 ∷ []; prints = ascii "end kept 00 latch 0 refused 8\n" }

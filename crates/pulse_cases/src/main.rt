@@ -160,7 +160,7 @@ fn case(name: &[u8], before: &[u8], after: &[u8], reads: &[u8]) {
     }
 }
 
-// A case on part 1 or 2, and one on part 3 or 4, whose address has two bytes. Both end with a byte 5Ah, the close of the select,
+// A case on part 1 or 2, and one on parts 3 to 5, whose address has two bytes. Both end with a byte 5Ah, the close of the select,
 // and READs of the first 64 bytes and of the last 64; 8B 06 is 512 pulses.
 fn narrow(name: &[u8], before: &[u8], after: &[u8]) {
     let reads = b"\x66\x01\x00\x0F\x0C\x8B\x06\x01\x00\x17\xCC\x01\x8B\x06\x01";
@@ -241,6 +241,7 @@ fn reads() {
     wide(b"FSTRD", b"\x04\x00\x00\x17\x4B\x8A\x02\x0C", b"");
     narrow(b"RDSR", b"\x01\x0C\x00\x11", b"");
     wide(b"RDID", b"\x04\x00\x00\xAB\x01", b"");
+    wide(b"SNR", b"\x05\x00\x00\xCF\x01", b"");
 }
 
 // WRITE, stored. SI is low behind the address; for FF the whole array is first made 00 (8B 22 is 4,096 pulses). With the

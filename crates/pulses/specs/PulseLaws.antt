@@ -13,7 +13,7 @@ use Rattle.stages.specs.Wp.{isUp}
 use Rattle.stages.specs.Sound.{soundStage}
 use Rattle.stages.specs.declared.stage.Stage.{Stage}
 use Rattle.stages.specs.declared.stage.Line.{Line}
-use Rattle.stages.specs.declared.stage.Stage.the-variants.{Closed, Asleep, Code, Upper, Lower, Dummy, Ready, ArrayOut, StatusOut, IdentOut, Writing, Keeping, Over}
+use Rattle.stages.specs.declared.stage.Stage.the-variants.{Closed, Asleep, Code, Upper, Lower, Dummy, Ready, ArrayOut, StatusOut, IdentOut, SerialOut, Writing, Keeping, Over}
 use Rattle.select.specs.Fall.{fall, statusByte, stageLevel}
 use Rattle.select.specs.Rise.{rise}
 use Rattle.select.specs.SoundLaws.{rise-sound}
@@ -33,7 +33,8 @@ use Rattle.report.specs.declared.record.Record.{Record}
 use Rattle.chip.specs.Event.{accepted, answerOf, checks, live, step, event, written}
 use Rattle.chip.specs.EventLaws.{event-steps, checks-none}
 use Rattle.chip.specs.RunLaws.{written-length}
-use Rattle.turns.specs.Bench.{Bench, afterAnswer, afterEvent}
+use Rattle.turns.specs.Bench.{Bench, afterAnswer, replaySerial, afterEvent}
+use Rattle.turns.specs.EventLaws.{serial-fits}
 use Rattle.turns.specs.Stand.{after, clockedBy, shownBy, closes}
 use Rattle.turns.specs.declared.stand.Stand.{Stand}
 use Rattle.pulses.specs.Pulse.{pulsed, standing}
@@ -66,7 +67,7 @@ closes-not true = refl
 closes-not false = refl
 
 pub unseen : (s next : State) (code : ℕ) (selects : ℕ) (told : Record) (xs os : List ℕ)
-    → event xs s code ≡ answerOf (accepted (silent next)) → isOpen next ≡ isOpen s → seesRise s code ≡ false
+    → event replaySerial xs s code ≡ answerOf (accepted (silent next)) → isOpen next ≡ isOpen s → seesRise s code ≡ false
     → afterEvent (standing (standOf s selects told) xs os) code ≡ standing (standOf next selects told) xs os
 unfolding afterEvent after clockedBy shownBy closes written noted
 unseen s next code selects told xs os is level none =
@@ -85,14 +86,15 @@ no-rise s = and-no (s .power && holdHigh (s .hold) && isOpen s && not (s .sck))
 -- ---- an event on a chip and an array that the checks let through
 
 module _ (s : State) (xs : List ℕ) (safe : sound s ≡ true) (fits : fitsPart (s .part) (length xs) ≡ true) where
-  steps : (code : ℕ) → checks s (length xs) code ≡ 0 → event xs s code ≡ answerOf (step (figureOf (s .part)) xs s code)
-  steps code none = event-steps xs s code (eq-eqb _ _ none)
+  steps : (code : ℕ) → checks s (length xs) (length replaySerial) code ≡ 0
+      → event replaySerial xs s code ≡ answerOf (step (figureOf (s .part)) replaySerial xs s code)
+  steps code none = event-steps replaySerial xs s code (eq-eqb _ _ none)
 
-  up : event xs s 3 ≡ answerOf (step (figureOf (s .part)) xs s 3)
-  up = steps 3 (checks-none xs s 3 safe fits refl)
+  up : event replaySerial xs s 3 ≡ answerOf (step (figureOf (s .part)) replaySerial xs s 3)
+  up = steps 3 (checks-none replaySerial xs s 3 safe fits (serial-fits (s .part)) refl)
 
-  down : event xs s 2 ≡ answerOf (step (figureOf (s .part)) xs s 2)
-  down = steps 2 (checks-none xs s 2 safe fits refl)
+  down : event replaySerial xs s 2 ≡ answerOf (step (figureOf (s .part)) replaySerial xs s 2)
+  down = steps 2 (checks-none replaySerial xs s 2 safe fits (serial-fits (s .part)) refl)
 
 -- two events that are not refused are a pulse
 pulse-by : (b c d : Bench) → b .refusal ≡ 0 → c .refusal ≡ 0 → afterEvent b 3 ≡ c → afterEvent c 2 ≡ d → pulsed 1 b ≡ d
@@ -125,7 +127,7 @@ module _ (part kept : ℕ) (si wp : Line) (latch : Bool) (selects : ℕ) (told :
     at sck = chipOf part kept true sck si wp latch hold stage
 
     followed :
-        sckRise (figureOf part) (at false) ≡ silent (at true) → sckFall (figureOf part) xs (at true) ≡ silent (at false)
+        sckRise (figureOf part) (at false) ≡ silent (at true) → sckFall (figureOf part) replaySerial xs (at true) ≡ silent (at false)
         → seesRise (at false) 3 ≡ false → pulsed 1 (benchAt (at false)) ≡ benchAt (at false)
     unfolding step live isOpen
     followed rises falls none =
@@ -157,6 +159,7 @@ module _ (part kept : ℕ) (si wp : Line) (latch : Bool) (selects : ℕ) (told :
   closed-still (ArrayOut level bit at) shut safe = cc
   closed-still (StatusOut level bit) shut safe = cc
   closed-still (IdentOut level bit at) shut safe = cc
+  closed-still (SerialOut level bit at) shut safe = cc
   closed-still (Writing came shift at) shut safe = cc
   closed-still (Keeping wp′ shift) shut safe = cc
   closed-still (Over end) shut safe = cc
@@ -180,14 +183,14 @@ module _ (part kept : ℕ) (si wp : Line) (latch : Bool) (named : isPart part �
   module _ (stage next last : Stage) (note : Note) (told : Record) (xs os : List ℕ)
       (safe : soundStage (figureOf part) stage ≡ true) (fits : fitsPart part (length xs) ≡ true)
       (rises : rise (figureOf part) sees stage ≡ record { stage = next; latch = latch; kept = kept; note = note })
-      (falls : fall (figureOf part) (written note xs) (statusByte (figureOf part) kept latch) next ≡ last)
+      (falls : fall (figureOf part) replaySerial (written note xs) (statusByte (figureOf part) kept latch) next ≡ last)
       (open1 : isClosed stage ≡ false) (open2 : isClosed next ≡ false) (open3 : isClosed last ≡ false) where
     next-safe : soundStage (figureOf part) next ≡ true
     next-safe =
         ap (λ (r : Risen). soundStage (figureOf part) (r .stage)) (sym rises)
         ∙ rise-sound (figureOf part) (fair part named) sees stage safe
 
-    raised : event xs (openChip false stage) 3 ≡ answerOf (accepted (record { state = openChip true next; note = note }))
+    raised : event replaySerial xs (openChip false stage) 3 ≡ answerOf (accepted (record { state = openChip true next; note = note }))
     unfolding step live sckRise
     raised =
         up (openChip false stage) xs (sound-at false stage safe) fits

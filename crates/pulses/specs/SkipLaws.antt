@@ -215,8 +215,8 @@ pub open-asks : (chip : State) (told : Record) (len n : ℕ) (s i c : Bool) → 
 open-asks chip told len n s i c a p b q d r = (granted a p, (sym b ∙ q, granted d r))
 
 -- where a READ goes on: as at the fall that shows its first bit
-pub read-is : (stand : Stand) (xs : List ℕ) (at m status : ℕ) (f : Figure) (stage : Stage) (told : Record)
-    → stage ≡ fall f xs status (Ready Array ((at + m) % length xs)) → told ≡ more (stand .told) (m * 8) m 0
+pub read-is : (stand : Stand) (serial xs : List ℕ) (at m status : ℕ) (f : Figure) (stage : Stage) (told : Record)
+    → stage ≡ fall f serial xs status (Ready Array ((at + m) % length xs)) → told ≡ more (stand .told) (m * 8) m 0
     → inStage stand stage told ≡ readOn stand xs at m
 unfolding readOn fall
-read-is stand xs at m status f stage told is sums = λ i. inStage stand (is i) (sums i)
+read-is stand serial xs at m status f stage told is sums = λ i. inStage stand (is i) (sums i)

@@ -18,6 +18,7 @@ use stages::stage::Line;
 use stages::stage::Stage;
 use stages::stage::What;
 use turns::stand::Stand;
+use turns::turn::REPLAY_SERIAL;
 
 // A READ: so many bytes were shown, and bit 7 of the next one stands on SO.
 fn read_on(stand: Stand, array: &[u8], at: usize, bytes: u64) -> Stand
@@ -35,7 +36,7 @@ fn read_on(stand: Stand, array: &[u8], at: usize, bytes: u64) -> Stand
         what: What::Array,
         at: next,
     };
-    let stage = fall(figure_of(chip.part as u64), array, 0, ready);
+    let stage = fall(figure_of(chip.part as u64), array, &REPLAY_SERIAL, 0, ready);
     let chip = State { stage, ..chip };
     let told = count_more(told, bytes * 8, bytes, 0);
     Stand {

@@ -17,7 +17,7 @@ use Rattle.chip.specs.Outcomes.{paper-sole}
 use Rattle.chip.specs.RefusalLaws.{refusal-stays}
 use Rattle.chip.specs.declared.event.Answer.{Answer}
 use Rattle.report.specs.Record.{mostShown}
-use Rattle.turns.specs.Bench.{deskOf, onPage, benchOf}
+use Rattle.turns.specs.Bench.{replaySerial, deskOf, onPage, benchOf}
 use Rattle.turns.specs.Page.{Page, pageOf, printed}
 use Rattle.turns.specs.Stand.{after}
 use Rattle.turns.specs.declared.stand.Stand.{Stand}
@@ -31,17 +31,17 @@ use Rattle.story.specs.Scene.{Scene, sceneOf, acceptedText, eventScene, 
 -- ---- an event
 
 module _ (t : Turn) (xs : List ℕ) (code : ℕ) (a : Answer) (ys : List ℕ)
-    (is : paper a ≡ paper (event xs (t .stand .chip) code))
-    (stores : ys ≡ written (event xs (t .stand .chip) code .note) xs) where
-  same : a ≡ event xs (t .stand .chip) code
+    (is : paper a ≡ paper (event replaySerial xs (t .stand .chip) code))
+    (stores : ys ≡ written (event replaySerial xs (t .stand .chip) code .note) xs) where
+  same : a ≡ event replaySerial xs (t .stand .chip) code
   same = paper-sole _ _ is
 
   module _ (h : a .refusal ≡ 0 → ⊥) where
     pub refused-scene : record { refusal = a .refusal; stand = t .stand; array = ys } ≡ eventScene (sceneOf t xs) code
     unfolding eventScene
     refused-scene =
-        let no : eqb (event xs (t .stand .chip) code .refusal) 0 ≡ false = rw (← same) (ne-eqb _ _ h) in
-        rw (stores, refusal-stays (t .stand .chip) xs code no, ← same, ne-eqb _ _ h)
+        let no : eqb (event replaySerial xs (t .stand .chip) code .refusal) 0 ≡ false = rw (← same) (ne-eqb _ _ h) in
+        rw (stores, refusal-stays (t .stand .chip) replaySerial xs code no, ← same, ne-eqb _ _ h)
 
     pub refused-text : (place : ℕ) (p q : Page) → Prints p (refusedLine place (a .refusal)) q → Prints p (eventText (sceneOf t xs) place code) q
     unfolding eventText

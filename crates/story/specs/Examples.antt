@@ -155,7 +155,7 @@ traces =
     ∷ record {
       trace = 0x01 ∷ 0x01 ∷ [];
       tells =
-          ascii "0: refused 3: bits that the part does not keep; take bits of 0C on parts 1 and 2, of 8C on parts 3 and 4\n"
+          ascii "0: refused 3: bits that the part does not keep; take bits of 0C on parts 1 and 2, of 8C on parts 3 to 5\n"
           ++ ascii "end: no power-up\n";
     }
     ∷ []

@@ -8,7 +8,7 @@ use Rattle.trace.specs.Figures.{lastByte}
 use Rattle.trace.specs.Items.{shortEvents, runEvents, itemEvents}
 use Rattle.chip.specs.Event.{event, written}
 use Rattle.chip.specs.declared.event.Answer.{Answer}
-use Rattle.turns.specs.Bench.{Bench, runsOn, stopped, taken, afterEvent, afterEvents}
+use Rattle.turns.specs.Bench.{Bench, runsOn, stopped, taken, replaySerial, afterEvent, afterEvents}
 use Rattle.turns.specs.Stand.{after, shownBy}
 use Rattle.pulses.specs.Pulse.{pulsed}
 use Rattle.bench.specs.Run.{afterItem}
@@ -21,7 +21,7 @@ either false x y = refl
 pub same-event : (b : Bench) (code : ℕ) → sceneIn (afterEvent b code) ≡ eventScene (sceneIn b) code
 unfolding afterEvent eventScene
 same-event b code =
-    let a : Answer = event (b .array) (b .stand .chip) code in
+    let a : Answer = event replaySerial (b .array) (b .stand .chip) code in
     either (eqb (a .refusal) 0)
     (taken b (a .state) (after (b .stand) code a) (written (a .note) (b .array)) (shownBy (b .shown) (b .stand) code)) (stopped b (a .refusal))
 

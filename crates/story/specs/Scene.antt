@@ -10,7 +10,7 @@ use Rattle.select.specs.declared.notes.Note.{Note}
 use Rattle.chip.specs.Event.{event, written}
 use Rattle.chip.specs.declared.event.Answer.{Answer}
 use Rattle.report.specs.Record.{mostShown}
-use Rattle.turns.specs.Bench.{Bench}
+use Rattle.turns.specs.Bench.{Bench, replaySerial}
 use Rattle.turns.specs.Stand.{after}
 use Rattle.turns.specs.declared.stand.Stand.{Stand}
 use Rattle.turns.specs.declared.turn.Turn.{Turn}
@@ -51,10 +51,10 @@ answeredText b place code a =
     (refusedLine place (a .refusal))
 
 unfoldable pub eventScene : Scene → ℕ → Scene
-eventScene b code = answeredScene b code (event (b .array) (b .stand .chip) code)
+eventScene b code = answeredScene b code (event replaySerial (b .array) (b .stand .chip) code)
 
 unfoldable pub eventText : Scene → ℕ → ℕ → List ℕ
-eventText b place code = answeredText b place code (event (b .array) (b .stand .chip) code)
+eventText b place code = answeredText b place code (event replaySerial (b .array) (b .stand .chip) code)
 
 -- ---- events in their order, each where none before it was refused
 

@@ -17,6 +17,7 @@ use trace::items::events_of;
 use trace::items::pulses_of;
 use trace::reader::number_at;
 use turns::stand::Stand;
+use turns::turn::REPLAY_SERIAL;
 use turns::turn::Turn;
 use words::changes::sampled_by;
 use words::changes::tell_changes;
@@ -55,7 +56,7 @@ fn tell_event(turn: Turn, array: &mut [u8], out: &mut [u8], place: usize, code: 
 {
     let stand = turn.stand;
     let chip = stand.chip;
-    let answer = event(chip, array, code);
+    let answer = event(chip, array, &REPLAY_SERIAL, code);
     if answer.refusal != 0 {
         let at = print_refused(out, turn.at, place, answer.refusal);
         return Turn {

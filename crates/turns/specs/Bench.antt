@@ -4,6 +4,8 @@ use Prim.Native.Nat.{ℕ}
 use mathlib.Core.Bool.{Bool, cond}
 use mathlib.Core.List.{List, [], _∷_, _++_}
 use lib.Dec.{eqb}
+use lib.ListN.{replicate}
+use Rattle.parts.specs.Figures.{serialBytes}
 use Rattle.pins.specs.declared.state.State.{State}
 use Rattle.chip.specs.Event.{event, written}
 use Rattle.chip.specs.declared.event.Answer.{Answer}
@@ -56,9 +58,13 @@ afterAnswer b code a =
     (taken b (a .state) (after (b .stand) code a) (written (a .note) (b .array)) (shownBy (b .shown) (b .stand) code))
     (stopped b (a .refusal))
 
+-- "replay uses eight bytes 00": the serial number that is lent with every event, on parts that have none too, where any will do
+abbrev pub replaySerial : List ℕ
+replaySerial = replicate serialBytes 0
+
 -- an event on the bench
 unfoldable pub afterEvent : Bench → ℕ → Bench
-afterEvent b code = afterAnswer b code (event (b .array) (b .stand .chip) code)
+afterEvent b code = afterAnswer b code (event replaySerial (b .array) (b .stand .chip) code)
 
 -- It "stops at the first refusal": events in their order, each where none before it was refused
 abbrev pub afterEvents : Bench → List ℕ → Bench

@@ -8,7 +8,7 @@ use lib.Dec.{eqb}
 use Rattle.pins.specs.declared.state.State.{State}
 use Rattle.chip.specs.Event.{event, written}
 use Rattle.chip.specs.declared.event.Answer.{Answer}
-use Rattle.turns.specs.Bench.{Bench, afterEvents, runsOn, stopped, closing, taken, afterAnswer, afterEvent, deskOf, onPage, benchOf}
+use Rattle.turns.specs.Bench.{Bench, afterEvents, runsOn, stopped, closing, taken, afterAnswer, replaySerial, afterEvent, deskOf, onPage, benchOf}
 use Rattle.turns.specs.Page.{Page, pageOf, printed}
 use Rattle.turns.specs.Stand.{after, shownBy}
 use Rattle.turns.specs.declared.stand.Stand.{Stand}
@@ -35,7 +35,7 @@ tells-answer t b next stand ys ps refusal false = refl
 
 tells-event : (code : ℕ) → Tells (λ b. afterEvent b code)
 unfolding afterEvent
-tells-event code t b = go (event (b .array) (b .stand .chip) code)
+tells-event code t b = go (event replaySerial (b .array) (b .stand .chip) code)
   where
     go : (a : Answer) → afterAnswer (front t b) code a ≡ front t (afterAnswer b code a)
     go a =

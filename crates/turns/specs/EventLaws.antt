@@ -3,19 +3,20 @@
 use mathlib.Core.Path.{_≡_, refl, sym, ap, _∙_}
 use mathlib.Core.Bool.{Bool, true, false, cond}
 use mathlib.Core.List.{List, [], _∷_}
-use Prim.Native.Nat.{ℕ, suc, _+_, _<_, _≤_}
+use Prim.Native.Nat.{ℕ, zero, suc, _+_, _<_, _≤_}
 use native.Mathlib.Numerals.{add-one}
 use native.Mathlib.Omega.{arith}
 use borrow.Author.Tests.{eq-eqb, ne-eqb}
 use lib.Dec.{eqb}
 use lib.ListN.{length, getD, drop, drop-of-length-le}
 use lib.Seq.{drop-cons}
+use Rattle.parts.specs.Figures.{figureOf, fitsSerial}
 use Rattle.chip.specs.Answers.{paper}
 use Rattle.chip.specs.Event.{event, written}
 use Rattle.chip.specs.Outcomes.{paper-sole}
 use Rattle.chip.specs.RefusalLaws.{refusal-stays}
 use Rattle.chip.specs.declared.event.Answer.{Answer}
-use Rattle.turns.specs.Bench.{Bench, afterEvents, stopped, selectText, closing, afterEvent, deskOf, onPage, benchOf}
+use Rattle.turns.specs.Bench.{Bench, afterEvents, stopped, selectText, closing, replaySerial, afterEvent, deskOf, onPage, benchOf}
 use Rattle.turns.specs.Page.{Page, pageOf, printed}
 use Rattle.turns.specs.Stand.{closes, after, shownBy}
 use Rattle.turns.specs.declared.stand.Stand.{Stand}
@@ -23,17 +24,28 @@ use Rattle.turns.specs.declared.turn.Turn.{Turn}
 use Rattle.turns.specs.DeskLaws.{tells-events, desk-is, carry}
 use Rattle.turns.specs.PrintLaws.{print-none}
 
+-- eight bytes are a serial number for every part, so 15 is given to no event on the bench
+pub serial-fits : (part : ℕ) → fitsSerial part (length replaySerial) ≡ true
+unfolding figureOf
+serial-fits zero = refl
+serial-fits (suc zero) = refl
+serial-fits (suc (suc zero)) = refl
+serial-fits (suc (suc (suc zero))) = refl
+serial-fits (suc (suc (suc (suc zero)))) = refl
+serial-fits (suc (suc (suc (suc (suc zero))))) = refl
+serial-fits (suc (suc (suc (suc (suc (suc k)))))) = refl
+
 module _ (t : Turn) (xs os out : List ℕ) (code : ℕ) (a : Answer) (ys : List ℕ)
-    (is : paper a ≡ paper (event xs (t .stand .chip) code))
-    (stores : ys ≡ written (event xs (t .stand .chip) code .note) xs) where
-  same : a ≡ event xs (t .stand .chip) code
+    (is : paper a ≡ paper (event replaySerial xs (t .stand .chip) code))
+    (stores : ys ≡ written (event replaySerial xs (t .stand .chip) code .note) xs) where
+  same : a ≡ event replaySerial xs (t .stand .chip) code
   same = paper-sole _ _ is
 
   refuses : (a .refusal ≡ 0 → ⊥) → stopped (benchOf t ys os) (a .refusal) ≡ afterEvent (benchOf t xs os) code
   unfolding afterEvent
   refuses h =
-      let no : eqb (event xs (t .stand .chip) code .refusal) 0 ≡ false = rw (← same) (ne-eqb _ _ h) in
-      rw (stores, refusal-stays (t .stand .chip) xs code no, ← same, ne-eqb _ _ h)
+      let no : eqb (event replaySerial xs (t .stand .chip) code .refusal) 0 ≡ false = rw (← same) (ne-eqb _ _ h) in
+      rw (stores, refusal-stays (t .stand .chip) replaySerial xs code no, ← same, ne-eqb _ _ h)
 
   pub event-refused : (a .refusal ≡ 0 → ⊥)
       → deskOf (record { refusal = a .refusal; stand = t .stand; at = t .at }) ys os out

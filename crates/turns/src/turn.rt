@@ -5,6 +5,7 @@ ghost use Rattle.turns.specs.Page.{pageOf};
 use crate::page::print_select;
 use crate::stand::Stand;
 use chip::event::event;
+use parts::figures::SERIAL;
 use report::record::SHOWN;
 
 // What stands on the bench after some events, the refusal that stopped them, or 0, and how much of the page is printed.
@@ -13,6 +14,9 @@ pub struct Turn {
     pub stand: Stand,
     pub at: usize,
 }
+
+// "replay uses eight bytes 00" (document 02, Wish 8): the serial number that is lent with every event.
+pub const REPLAY_SERIAL: [u8; SERIAL] = [0; SERIAL];
 
 // One event. A select that it closes has its line printed.
 pub fn take_event(
@@ -27,7 +31,7 @@ pub fn take_event(
 {
     let stand = turn.stand;
     let chip = stand.chip;
-    let answer = event(chip, array, code);
+    let answer = event(chip, array, &REPLAY_SERIAL, code);
     if answer.refusal != 0 {
         return Turn {
             refusal: answer.refusal,

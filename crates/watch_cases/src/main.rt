@@ -158,6 +158,26 @@ fn others() {
         ],
     );
     case(
+        b"= SNR on part 5, and a ninth byte's clocks.\n",
+        &[
+            0x05,
+            0x00,
+            0x00,
+            0xCF,
+            0x01,
+            0x0C,
+            0x0C,
+            0x0C,
+            0x0C,
+            0x0C,
+            0x0C,
+            0x0C,
+            0x0C,
+            0x0C,
+            0x01,
+        ],
+    );
+    case(
         b"= A READ of 1FFh and 000h by a run of 16 pulses.\n",
         &[0x01, 0x00, 0x00, 0x17, 0x8B, 0x02, 0x9B, 0x02, 0x01],
     );
@@ -196,7 +216,7 @@ fn others() {
 
 // Traces that do not come to power-up.
 fn starts() {
-    case(b"= No such part.\n", &[0x05, 0x00]);
+    case(b"= No such part.\n", &[0x06, 0x00]);
     case(b"= A kept bit that part 1 does not keep.\n", &[0x01, 0x01]);
     case(b"= Nothing.\n", &[]);
     case(b"= A leading number of 268.\n", &[0x8C, 0x02]);

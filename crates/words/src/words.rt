@@ -30,6 +30,7 @@ pub fn print_command(out: &mut [u8], at: usize, command: Command) -> usize
         Command::Fstrd => print(out, at, b"FSTRD"),
         Command::Write => print(out, at, b"WRITE"),
         Command::Rdid => print(out, at, b"RDID"),
+        Command::Snr => print(out, at, b"SNR"),
         Command::Sleep => print(out, at, b"SLEEP"),
         Command::Other => print(out, at, b"names no command"),
     }
@@ -40,11 +41,11 @@ pub fn print_advice(out: &mut [u8], at: usize, row: u8) -> usize
     ensures { λ r. ⌜ Prints (pageOf (now (out .entry)) at) (adviceText row) (pageOf (now (out .exit)) r) ⌝ }
 {
     match row {
-        1 => print(out, at, b": no such part; begin with the part, 1 to 4"),
+        1 => print(out, at, b": no such part; begin with the part, 1 to 5"),
         3 => print(
             out,
             at,
-            b": bits that the part does not keep; take bits of 0C on parts 1 and 2, of 8C on parts 3 and 4",
+            b": bits that the part does not keep; take bits of 0C on parts 1 and 2, of 8C on parts 3 to 5",
         ),
         6 => print(
             out,

@@ -14,12 +14,5 @@ pub take-pulse-spec : {M : Type 1} → statement M
 take-pulse-spec =
     tie.close
     (tie.spec
-    (λ c. search pulse-stays)
-    (λ c κs. search needs)
-    (λ c. search needs)
-    (λ c. search needs)
-    (λ c. search pulse-stops)
-    (λ c κs. search needs)
-    (λ c. search needs)
-    (λ c. search needs)
-    returns-3)
+    (λ c. search pulse-stays) (λ c κs. search needs) (λ c. search needs) (λ c. search needs) (λ c. search pulse-stops)
+    (λ c κs. search needs) (λ c. search needs) (λ c. search needs) returns-3)

@@ -15,9 +15,4 @@ pub take-end-spec : {M : Type 1} → statement M
 take-end-spec =
     tie.close
     (tie.spec
-    (λ c κs. search needs)
-    (λ c. search needs)
-    act-requires
-    (λ c κs. search needs)
-    (λ c. search needs)
-    returns)
+    (λ c κs. search needs) (λ c. search needs) act-requires (λ c κs. search needs) (λ c. search needs) returns)

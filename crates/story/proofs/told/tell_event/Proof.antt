@@ -10,7 +10,7 @@ returns c =
     let told = c .before .before in
     let test = told .before .before in
     let event = test .before .before .before .before in
-    let turn = event .before .before .before .before .before .before .args .turn in
+    let turn = event .before .before .before .before .before .before .before .args .turn in
     let answer = event .event .ensures in (
       refused-scene turn _ _ (event .event .result) _ (answer .0) (answer .1) (test .if1 .taken),
       refused-text turn _ _ (event .event .result) _ (answer .0) (answer .1) (test .if1 .taken) _ _ _ (told .print-refused .ensures),
@@ -22,7 +22,7 @@ returns-2 c =
     let moved = told .before .before in
     let test = moved .before .before in
     let event = test .before .before .before .before in
-    let turn = event .before .before .before .before .before .before .args .turn in
+    let turn = event .before .before .before .before .before .before .before .args .turn in
     let answer = event .event .ensures in (
       accepted-scene turn _ _ (event .event .result) _ (answer .0) (answer .1) _ (test .if1 .left) (moved .after .ensures .0),
       accepted-text turn _ _ (event .event .result) _ (answer .0) (answer .1) _ (test .if1 .left) (moved .after .ensures .0) _ _ _
@@ -33,13 +33,5 @@ pub tell-event-spec : {M : Type 1} → statement M
 tell-event-spec =
     tie.close
     (tie.spec
-    (λ c κs. search needs)
-    (λ c κs. search needs)
-    (λ c. search needs)
-    (λ c. search needs)
-    returns
-    (λ c κs. search needs)
-    (λ c κs. search needs)
-    (λ c. search needs)
-    (λ c. search needs)
-    returns-2)
+    (λ c. search needs) (λ c κs. search needs) (λ c κs. search needs) (λ c. search needs) (λ c. search needs) returns
+    (λ c κs. search needs) (λ c κs. search needs) (λ c. search needs) (λ c. search needs) returns-2)
