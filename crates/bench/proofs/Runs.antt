@@ -20,8 +20,8 @@ use Rattle.parts.specs.FigureLaws.{most, largest}
 use Rattle.parts.specs.declared.figures.Figure.{Figure}
 use Rattle.pins.specs.Levels.{atRest}
 use Rattle.pins.specs.declared.state.State.{State}
-use Rattle.chip.specs.Power.{powerUp, fresh, filled}
-use Rattle.chip.specs.declared.power.Powered.{Powered}
+use Rattle.supply.specs.Power.{powerUp, fresh, filled}
+use Rattle.supply.specs.declared.power.Powered.{Powered}
 use Rattle.trace.specs.Figures.{lastByte}
 use Rattle.trace.specs.Items.{shortEvents, itemEvents}
 use Rattle.pulses.specs.Pulse.{pulsed}

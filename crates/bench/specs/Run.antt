@@ -9,8 +9,8 @@ use Rattle.trace.specs.Answers.{Told, Value, num, end}
 use Rattle.trace.specs.Number.{reading}
 use Rattle.parts.specs.Figures.{figureOf}
 use Rattle.pins.specs.Levels.{atRest}
-use Rattle.chip.specs.Power.{powerUp, fresh, filled}
-use Rattle.chip.specs.declared.power.Powered.{Powered}
+use Rattle.supply.specs.Power.{powerUp, fresh, filled}
+use Rattle.supply.specs.declared.power.Powered.{Powered}
 use Rattle.trace.specs.Items.{itemEvents}
 use Rattle.report.specs.Lines.{partLine}
 use Rattle.turns.specs.Bench.{Bench, runsOn, stopped, afterEvents}

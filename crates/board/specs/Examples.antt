@@ -15,8 +15,9 @@ use Rattle.select.specs.Fall.{showArray, showStatus, showSerial, fall}
 use Rattle.select.specs.Rise.{opened, codeRise, upperRise, lowerRise, writeRise, keepRise, rise}
 use Rattle.pins.specs.Edges.{csFall, csRise, sckRise, sckFall, holdFall, holdRise}
 use Rattle.pins.specs.Sound.{rests, sound}
+use Rattle.step.specs.Step as chip-step
 use Rattle.chip.specs.Event as chip
-use Rattle.chip.specs.Power as chip-power
+use Rattle.supply.specs.Power as chip-power
 use Rattle.chip.specs.Run as chip-run
 use Rattle.board.specs.Checks.{isOwn, noBoard, allSound, checks}
 use Rattle.board.specs.Chips.{sum, pieces, states, slice}
@@ -31,7 +32,7 @@ pub mod Powers
 pub mod Runs
 
 pub events-hold : T (allLeave lines && allLeave refusals && allLeave numbered && allLeave inOrder && allLeave moved)
-unfolding lines refusals numbered inOrder moved figureOf fallWp bitOf afterFall showSerial soundStage rests sound csFall csRise sckRise sckFall holdFall holdRise fall rise chip.csStayed chip.live chip.step chip.checks chip.event chip.written chip-run.next isOwn noBoard allSound checks sum pieces states slice every at refusalAt refusal event driven line levels boardSo
+unfolding lines refusals numbered inOrder moved figureOf fallWp bitOf afterFall showSerial soundStage rests sound csFall csRise sckRise sckFall holdFall holdRise fall rise chip-step.csStayed chip-step.live chip-step.step chip.checks chip.event chip-step.written chip-run.next isOwn noBoard allSound checks sum pieces states slice every at refusalAt refusal event driven line levels boardSo
 events-hold = tt
 
 pub powers-hold : T (allGive powers)
@@ -39,5 +40,5 @@ unfolding powers figureOf chip-power.fillRefusal chip-power.powerRefusal chip-po
 powers-hold = tt
 
 pub runs-hold : T (allRun histories)
-unfolding clocked histories figureOf command firstProtected mayStore mayKeep afterCode afterAddress nextAddress takeBit fallWp byteWp byteCame afterFall bitOf showArray showStatus fall opened codeRise upperRise lowerRise writeRise keepRise rise soundStage csFall csRise sckRise sckFall holdFall holdRise chip.csStayed chip.live chip.step chip.checks chip.event chip.written chip-run.next rests sound chip-power.fillRefusal chip-power.powerRefusal chip-power.powerUp noBoard allParts sum allMasked powerRefusal powered powerUp isOwn allSound checks pieces states slice every at refusalAt refusal event driven line levels boardSo
+unfolding clocked histories figureOf command firstProtected mayStore mayKeep afterCode afterAddress nextAddress takeBit fallWp byteWp byteCame afterFall bitOf showArray showStatus fall opened codeRise upperRise lowerRise writeRise keepRise rise soundStage csFall csRise sckRise sckFall holdFall holdRise chip-step.csStayed chip-step.live chip-step.step chip.checks chip.event chip-step.written chip-run.next rests sound chip-power.fillRefusal chip-power.powerRefusal chip-power.powerUp noBoard allParts sum allMasked powerRefusal powered powerUp isOwn allSound checks pieces states slice every at refusalAt refusal event driven line levels boardSo
 runs-hold = tt

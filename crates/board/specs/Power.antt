@@ -7,7 +7,7 @@ use lib.ListN.{length, take, drop, replicate}
 use Rattle.parts.specs.Figures.{isPart, inMask}
 use Rattle.pins.specs.Levels.{atRest}
 use Rattle.pins.specs.declared.state.State.{State}
-use Rattle.chip.specs.Power as chip
+use Rattle.supply.specs.Power as chip
 use Rattle.board.specs.Chips.{pieceLength, sum}
 use Rattle.board.specs.Checks.{noBoard}
 use Rattle.board.specs.declared.power.Asked.{Asked}

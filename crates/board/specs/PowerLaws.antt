@@ -10,7 +10,7 @@ use lib.ListN.{length, take, drop, getD, set, length-set, take-append-drop}
 use lib.Seq.{drop-drop}
 use borrow.Author.Tests.{eqb-true, eqb-false}
 use Rattle.pins.specs.declared.state.State.{State}
-use Rattle.chip.specs.Power as chip
+use Rattle.supply.specs.Power as chip
 use Rattle.board.specs.Chips.{pieceLength, sum}
 use Rattle.board.specs.Checks.{noBoard}
 use Rattle.board.specs.CheckLaws.{few}

@@ -12,11 +12,11 @@ use borrow.Author.Tests.{eqb-true, eqb-false, eq-eqb}
 use Rattle.laws.specs.TestLaws.{both, left, right}
 use Rattle.parts.specs.Figures.{isPart, fitsSerial, inMask}
 use Rattle.pins.specs.declared.state.State.{State}
-use Rattle.chip.specs.Power as chip
-use Rattle.chip.specs.PowerLaws.{power-state}
+use Rattle.supply.specs.Power as chip
+use Rattle.supply.specs.PowerLaws.{power-state}
 use Rattle.chip.specs.Run as chip-run
 use Rattle.chip.specs.Run.{Chip}
-use Rattle.chip.specs.SoundLaws.{power-sound}
+use Rattle.supply.specs.PowerLaws.{power-sound}
 use Rattle.board.specs.Chips.{pieceLength, serialLength, sum, together, serialsTogether, pieces, chipsOf}
 use Rattle.board.specs.Checks.{allSound}
 use Rattle.board.specs.GoodLaws.{Good}

@@ -9,10 +9,10 @@ use crate::checks::no_board;
 use crate::chips::Board;
 use crate::chips::MOST;
 use crate::chips::part_lengths;
-use chip::power::power_up as chip_power_up;
 use parts::figures::figure_of;
 use parts::figures::is_part;
 use pins::state::State;
+use supply::power::power_up as chip_power_up;
 
 // A chip that is asked for: its part and its kept bits.
 pub struct Asked {

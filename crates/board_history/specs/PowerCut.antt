@@ -10,7 +10,7 @@ use lib.ListN.{length, getD, take}
 use borrow.Author.Tests.{eqb-true, lt-leb}
 use lib.Seq.{take-length}
 use Rattle.parts.specs.Figures.{fitsSerial}
-use Rattle.chip.specs.Power as chip
+use Rattle.supply.specs.Power as chip
 use Rattle.chip.specs.Run as chip-run
 use Rattle.chip.specs.RunLaws.{run-serial}
 use Rattle.chip.specs.Run.{Chip, poweredUp}

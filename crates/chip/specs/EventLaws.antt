@@ -1,6 +1,5 @@
 -- An event by what its checks give. Assumes nothing.
-use Prim.Native.Nat.{ℕ, _+_, _*_, _/_, _%_, _<_, _≤_}
-use native.Mathlib.Omega.{arith}
+use Prim.Native.Nat.{ℕ, _<_}
 use mathlib.Core.Path.{_≡_, refl, sym, ap, _∙_}
 use mathlib.Core.Bool.{Bool, true, false, cond, not}
 use mathlib.Core.List.{List}
@@ -9,27 +8,13 @@ use lib.Dec.{eqb, leb}
 use borrow.Author.Tests.{eqb-false, eqb-true, eq-eqb, ne-eqb, leb-false}
 use Rattle.parts.specs.Figures.{figureOf, fitsPart, takesSerial, fitsSerial}
 use Rattle.parts.specs.declared.figures.Figure.{Figure}
-use Rattle.chip.specs.Event.{lendRefusal, checks, tried, event, step, refused, answerOf}
+use Rattle.step.specs.Step.{step, refused}
+use Rattle.chip.specs.Event.{lendRefusal, checks, tried, event, answerOf}
 use Rattle.pins.specs.Sound.{soundBy, sound}
 use Rattle.pins.specs.SoundLaws.{sound-row}
 use Rattle.laws.specs.TestLaws.{denied, granted}
 use Rattle.pins.specs.declared.state.State.{State}
-use Rattle.chip.specs.declared.step.Stepped.{Stepped}
-
--- "its code is twice the pin number plus the level"
-module _ (code pin : ℕ) where
-  pub pin-of : pin * 2 ≤ code → code < pin * 2 + 2 → code / 2 ≡ pin
-  pin-of low high = omega (arith, low, high)
-
-  pub level-of : pin * 2 ≤ code → code < pin * 2 + 2 → eqb (code % 2) 1 ≡ eqb code (pin * 2 + 1)
-  level-of low high = go (eqb code (pin * 2 + 1)) refl
-    where
-      go : (t : Bool) → eqb code (pin * 2 + 1) ≡ t → eqb (code % 2) 1 ≡ t
-      go true e = let h = eqb-true code (pin * 2 + 1) e in eq-eqb (code % 2) 1 (omega (arith, h))
-      go false e = let h = eqb-false code (pin * 2 + 1) e in ne-eqb (code % 2) 1 (λ odd. h (omega (arith, odd, low, high)))
-
-  pub pin-past : pin * 2 + 2 ≤ code → eqb (code / 2) pin ≡ false
-  pin-past past = ne-eqb (code / 2) pin (λ e. omega (arith, e, past))
+use Rattle.step.specs.declared.step.Stepped.{Stepped}
 
 module _ (f : Figure) (serial xs : List ℕ) (s : State) (code : ℕ) where
   by : Bool → Stepped

@@ -15,10 +15,11 @@ use Rattle.select.specs.Rise.{opened, codeRise, upperRise, lowerRise, writeRise
 use Rattle.pins.specs.Edges.{csFall, csRise, sckRise, sckFall, holdFall, holdRise}
 use Rattle.pins.specs.Sound.{rests, sound}
 use Rattle.pins.specs.Watch.{isOpen, seesRise}
-use Rattle.chip.specs.Event.{csStayed, live, step, checks, event, written}
+use Rattle.step.specs.Step.{csStayed, live, step, written}
+use Rattle.chip.specs.Event.{checks, event}
 use Rattle.chip.specs.Examples.Run.{allHold}
 use Rattle.chip.specs.Examples.Starred.{starred}
-use Rattle.chip.specs.Power.{fillRefusal, filled, powerRefusal, powerUp}
+use Rattle.supply.specs.Power.{fillRefusal, filled, powerRefusal, powerUp}
 pub mod Run
 pub mod Starred
 

@@ -2,12 +2,10 @@ pub mod Event
 pub mod List
 pub mod Loop
 pub mod Answers
-pub mod Power
 pub mod Promises
 pub mod Run
 pub mod EventLaws
 pub mod RefusalLaws
-pub mod PowerLaws
 pub mod SoundLaws
 pub mod RunLaws
 pub mod ListLaws

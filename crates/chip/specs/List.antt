@@ -8,7 +8,8 @@ use Rattle.select.specs.Notes.{levelNumber}
 use Rattle.select.specs.declared.notes.Note.{Note}
 use Rattle.select.specs.declared.notes.Note.the-variants.{Nothing}
 use Rattle.pins.specs.declared.state.State.{State}
-use Rattle.chip.specs.Event.{event, written, first, lendRefusal}
+use Rattle.step.specs.Step.{written}
+use Rattle.chip.specs.Event.{event, first, lendRefusal}
 use Rattle.chip.specs.declared.event.Answer.{Answer}
 
 -- how far a list came: the refusal that stopped it, or 0; "the count of events accepted and the state and memory those

@@ -19,14 +19,16 @@ use Rattle.select.specs.declared.notes.Note.the-variants.{Nothing}
 use Rattle.pins.specs.Levels.{soLevel}
 use Rattle.pins.specs.Sound.{sound}
 use Rattle.pins.specs.declared.state.State.{State}
-use Rattle.chip.specs.Event.{answerOf, lendRefusal, tried, event, written}
+use Rattle.step.specs.Step.{written}
+use Rattle.chip.specs.Event.{answerOf, lendRefusal, tried, event}
 use Rattle.chip.specs.List.{Course, setOut, tookOne, stopsAt, turn, course, listRefusal, listed}
 use Rattle.chip.specs.RefusalLaws.{refusal-told, refusal-stays}
 use Rattle.chip.specs.EventLaws.{event-lends, lend-passed, lend-none}
-use Rattle.chip.specs.RunLaws.{event-part, written-length}
+use Rattle.step.specs.StepLaws.{written-length}
+use Rattle.chip.specs.RunLaws.{event-part}
 use Rattle.chip.specs.SoundLaws.{event-sound}
 use Rattle.chip.specs.declared.event.Answer.{Answer}
-use Rattle.chip.specs.declared.step.Stepped.{Stepped}
+use Rattle.step.specs.declared.step.Stepped.{Stepped}
 
 pub turn-stops : (c : Course) (a : Answer) → (a .refusal ≡ 0 → ⊥) → turn c a ≡ stopsAt c (a .refusal)
 turn-stops c a e = rw (ne-eqb _ _ e)

@@ -13,7 +13,8 @@ use lib.Seq.{length-take-le}
 use Rattle.pins.specs.declared.state.State.{State}
 use Rattle.select.specs.Notes.{levelNumber}
 use Rattle.select.specs.declared.notes.Note.{Note}
-use Rattle.chip.specs.Event.{lendRefusal, event, written}
+use Rattle.step.specs.Step.{written}
+use Rattle.chip.specs.Event.{lendRefusal, event}
 use Rattle.chip.specs.List.{Course, setOut, tookOne, stopsAt, turn, course, listRefusal, listed}
 use Rattle.chip.specs.ListLaws.{course-stays, listed-runs, listed-stops, list-passed, list-none}
 use Rattle.chip.specs.EventLaws.{Lends, lend-passed, lend-none}

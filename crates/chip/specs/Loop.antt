@@ -3,7 +3,7 @@ use Prim.Native.Nat.{ℕ}
 use mathlib.Core.List.{List}
 use Rattle.chip.specs.List.{Course}
 use Rattle.chip.specs.declared.run.Ran.{Ran}
-use Rattle.chip.specs.declared.step.Stepped.{Stepped}
+use Rattle.step.specs.declared.step.Stepped.{Stepped}
 
 abbrev pub courseOf : Ran → List ℕ → List ℕ → Course
 courseOf r array levels =

@@ -8,12 +8,10 @@ use mathlib.Core.List.{List}
 use Rattle.laws.specs.TestLaws.{sole}
 use Rattle.select.specs.NoteLaws.{level-sole, note-sole}
 use Rattle.chip.specs.Answers.{Paper, paper}
-use Rattle.chip.specs.Power.{powerUp}
-use Rattle.chip.specs.Promises.{EventPromise, ListPromise, FillPromise}
+use Rattle.chip.specs.Promises.{EventPromise, ListPromise}
 use Rattle.pins.specs.Sound.{sound}
 use Rattle.chip.specs.declared.event.Answer.{Answer}
 use Rattle.chip.specs.declared.list.Listed.{Listed}
-use Rattle.chip.specs.declared.power.Powered.{Powered}
 use Rattle.pins.specs.declared.state.State.{State}
 
 pub paper-sole : (a b : Answer) → paper a ≡ paper b → a ≡ b
@@ -43,16 +41,6 @@ module _ (serial xs : List ℕ) (s : State) (codes levels : List ℕ) where
     sole (p .3) (q .3),
     sole (p .4) (q .4),
   )
-
-module _ (part kept : ℕ) (xs : List ℕ) where
-  pub power-up-sole : (a b : Powered) → a ≡ powerUp part kept xs → b ≡ powerUp part kept xs → a ≡ b
-  power-up-sole a b = sole
-
-  pub fill-sole : (byte a b : ℕ) (ys zs : List ℕ)
-      → FillPromise part byte xs a ys
-      → FillPromise part byte xs b zs
-      → (a ≡ b) × (ys ≡ zs)
-  fill-sole byte a b ys zs p q = (sole (p .0) (q .0), sole (p .1) (q .1))
 
 pub sound-sole : (s : State) (a b : Bool) → a ≡ sound s → b ≡ sound s → a ≡ b
 sound-sole s a b = sole

@@ -2,11 +2,10 @@
 use Prim.Native.Nat.{ℕ}
 use mathlib.Core.Path.{_≡_}
 use mathlib.Core.List.{List}
-use lib.ListN.{length}
 use Rattle.chip.specs.Answers.{paper}
-use Rattle.chip.specs.Event.{event, written}
+use Rattle.step.specs.Step.{written}
+use Rattle.chip.specs.Event.{event}
 use Rattle.chip.specs.List.{listed}
-use Rattle.chip.specs.Power.{fillRefusal, filled}
 use Rattle.chip.specs.declared.event.Answer.{Answer}
 use Rattle.chip.specs.declared.list.Listed.{Listed}
 use Rattle.pins.specs.declared.state.State.{State}
@@ -24,7 +23,3 @@ ListPromise serial xs s codes os a ys ls =
     × (a .state ≡ listed serial xs s codes os .state)
     × (ys ≡ listed serial xs s codes os .array)
     × (ls ≡ listed serial xs s codes os .levels)
-
--- the array xs filled with one byte: the refusal a, or 0, and the array ys
-abbrev pub FillPromise : ℕ → ℕ → List ℕ → ℕ → List ℕ → Type 0
-FillPromise part byte xs a ys = (a ≡ fillRefusal part (length xs)) × (ys ≡ filled part byte xs)

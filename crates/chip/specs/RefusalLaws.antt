@@ -14,9 +14,10 @@ use Rattle.pins.specs.Edges.{silent, siTo, holdFall, holdRise, wpTo, vddRise}
 use Rattle.pins.specs.Levels.{holdHigh}
 use Rattle.pins.specs.declared.state.State.{State}
 use Rattle.pins.specs.declared.state.Moved.{Moved}
-use Rattle.chip.specs.Event.{accepted, refused, answerOf, csTo, sckTo, holdTo, csStayed, vddTo, live, step, checks, tried, event, written}
+use Rattle.step.specs.Step.{accepted, refused, csTo, sckTo, holdTo, csStayed, vddTo, live, step, written}
+use Rattle.chip.specs.Event.{answerOf, checks, tried, event}
 use Rattle.chip.specs.declared.event.Answer.{Answer}
-use Rattle.chip.specs.declared.step.Stepped.{Stepped}
+use Rattle.step.specs.declared.step.Stepped.{Stepped}
 
 module _ (s : State) where
   abbrev Told : Stepped → Type 0

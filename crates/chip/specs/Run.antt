@@ -5,8 +5,9 @@ use mathlib.Core.Bool.{true}
 use mathlib.Core.List.{List, [], _∷_}
 use Rattle.pins.specs.Levels.{atRest}
 use Rattle.pins.specs.declared.state.State.{State}
-use Rattle.chip.specs.Event.{event, written}
-use Rattle.chip.specs.Power.{powerUp}
+use Rattle.step.specs.Step.{written}
+use Rattle.chip.specs.Event.{event}
+use Rattle.supply.specs.Power.{powerUp}
 use Rattle.chip.specs.declared.event.Answer.{Answer}
 
 -- the state, and what is lent with it: the array, and the serial number, which stays

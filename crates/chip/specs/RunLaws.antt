@@ -4,33 +4,22 @@ use mathlib.Core.Path.{_≡_, refl, _∙_}
 use mathlib.Core.Bool.{Bool, true, false, _&&_}
 use mathlib.Core.List.{List, [], _∷_}
 use lib.Dec.{eqb}
-use lib.ListN.{length, length-set}
+use lib.ListN.{length}
 use Rattle.parts.specs.Figures.{figureOf}
 use Rattle.laws.specs.TestLaws.{choose}
 use Rattle.parts.specs.declared.figures.Figure.{Figure}
 use Rattle.stages.specs.Close.{drops}
-use Rattle.select.specs.declared.notes.Note.{Note}
-use Rattle.select.specs.declared.notes.Note.the-variants.{Nothing, Latch, Stored, HeldBack, KeptSet, KeptHeldBack, PowerLost}
 use Rattle.pins.specs.Edges.{csFall, csRise, sckRise, sckFall, holdFall, holdRise}
 use Rattle.pins.specs.Levels.{csLevel, holdHigh}
 use Rattle.pins.specs.Sound.{sound}
 use Rattle.pins.specs.declared.state.State.{State}
 use Rattle.pins.specs.declared.state.Moved.{Moved}
-use Rattle.chip.specs.Event.{csTo, sckTo, holdTo, csStayed, vddTo, live, step, checks, tried, event, written}
+use Rattle.step.specs.Step.{csTo, sckTo, holdTo, csStayed, vddTo, live, step}
+use Rattle.chip.specs.Event.{checks, event}
 use Rattle.chip.specs.Run.{Chip, next, run}
 use Rattle.chip.specs.SoundLaws.{event-sound}
-use Rattle.chip.specs.declared.step.Stepped.{Stepped}
-
--- what an event writes keeps the array's length
-pub written-length : (note : Note) (xs : List ℕ) → length (written note xs) ≡ length xs
-unfolding written
-written-length Nothing xs = refl
-written-length (Latch level) xs = refl
-written-length (Stored at byte) xs = length-set xs at byte
-written-length (HeldBack at reason) xs = refl
-written-length (KeptSet kept) xs = refl
-written-length (KeptHeldBack reason) xs = refl
-written-length PowerLost xs = refl
+use Rattle.step.specs.declared.step.Stepped.{Stepped}
+use Rattle.step.specs.StepLaws.{written-length}
 
 -- every edge keeps the part
 module _ (s : State) where

@@ -9,10 +9,6 @@ ghost use Rattle.select.specs.Notes.{levelNumber};
 ghost use Rattle.chip.specs.Event.{lendRefusal, tried};
 ghost use Rattle.chip.specs.List.{setOut, course};
 ghost use Rattle.chip.specs.Loop.{courseOf};
-use crate::step::Stepped;
-use crate::step::refuse;
-use crate::step::step;
-use crate::step::store;
 use parts::figures::Figure;
 use parts::figures::figure_of;
 use parts::figures::takes_serial;
@@ -20,6 +16,10 @@ use pins::sound::sound_by;
 use pins::state::State;
 use select::notes::Level;
 use select::notes::Note;
+use step::step::Stepped;
+use step::step::refuse;
+use step::step::step;
+use step::step::store;
 
 // How far the codes were taken: the refusal that stopped them, or 0, the count of those accepted, the last one's note,
 // and the state that they made.

@@ -12,9 +12,6 @@
 //   n         the lender writes this byte as the serial number's first
 //   S         the state in an op-code of which these bits came, with the 1 before them
 use chip::event::event;
-use chip::power::fill;
-use chip::power::fill_with;
-use chip::power::power_up;
 use libc::STDIN_FILENO;
 use libc::STDOUT_FILENO;
 use pins::state::State;
@@ -22,6 +19,9 @@ use select::notes::Level;
 use select::notes::Note;
 use stages::stage::Line;
 use stages::stage::Stage;
+use supply::power::fill;
+use supply::power::fill_with;
+use supply::power::power_up;
 
 // The line's letter, 0 at its start; the number so far; what is set for the calls; and the chip.
 struct Desk {

@@ -9,7 +9,7 @@ use lib.Seq.{take-length}
 use Rattle.parts.specs.Figures.{fitsSerial}
 use Rattle.chip.specs.List.{Course, listed}
 use Rattle.chip.specs.ListRuns.{courseChip, listed-run}
-use Rattle.chip.specs.Power.{powerUp}
+use Rattle.supply.specs.Power.{powerUp}
 use Rattle.chip.specs.Run.{Chip, fromPowerUp, poweredUp, run}
 use Rattle.history.specs.History.{history}
 use Rattle.history.specs.Laws.Moments.{run-append}

@@ -10,10 +10,10 @@ use Rattle.parts.specs.FigureLaws.{fair}
 use Rattle.parts.specs.Figures.{fitsSerial}
 use Rattle.pins.specs.declared.state.State.{State}
 use Rattle.chip.specs.Event.{event}
-use Rattle.chip.specs.Power.{powerUp}
+use Rattle.supply.specs.Power.{powerUp}
 use Rattle.chip.specs.Run.{Chip, fromPowerUp, poweredUp, run}
 use Rattle.chip.specs.RunLaws.{run-serial}
-use Rattle.chip.specs.PowerLaws.{power-one, power-masked, power-fits, power-state}
+use Rattle.supply.specs.PowerLaws.{power-one, power-masked, power-fits, power-state}
 use Rattle.history.specs.History.{World, history}
 use Rattle.history.specs.Wire.{rest, refusal, afterAll}
 use Rattle.history.specs.Run.{worldOf}

@@ -2,9 +2,9 @@
 // documents 01 and 02; the comment above a call says why. Every place of the answers held 9 before the call.
 use chip::list::Listed;
 use chip::list::events;
-use chip::power::power_up;
 use libc::STDOUT_FILENO;
 use pins::state::State;
+use supply::power::power_up;
 
 fn main() {
     let mut array = [0u8; 512];

@@ -17,7 +17,7 @@ use Rattle.select.specs.Fall.{fall}
 use Rattle.select.specs.Rise.{rise}
 use Rattle.select.specs.declared.notes.Level.the-variants.{Released}
 use Rattle.select.specs.declared.notes.Note.the-variants.{Nothing}
-use Rattle.chip.specs.Event.{written}
+use Rattle.step.specs.Step.{written}
 use Rattle.report.specs.Record.{codeClocks, codeAfter, sampled, risen, shownAfter, noted}
 use Rattle.report.specs.RecordLaws.{counted-exact}
 use Rattle.report.specs.declared.record.Record.{Record}

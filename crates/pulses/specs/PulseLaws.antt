@@ -30,9 +30,10 @@ use Rattle.pins.specs.declared.hold.Hold.the-variants.{High, LowCsLow, LowCsHig
 use Rattle.pins.specs.declared.state.State.{State}
 use Rattle.report.specs.Record.{risen, shownAfter, noted}
 use Rattle.report.specs.declared.record.Record.{Record}
-use Rattle.chip.specs.Event.{accepted, answerOf, checks, live, step, event, written}
+use Rattle.step.specs.Step.{accepted, live, step, written}
+use Rattle.chip.specs.Event.{answerOf, checks, event}
 use Rattle.chip.specs.EventLaws.{event-steps, checks-none}
-use Rattle.chip.specs.RunLaws.{written-length}
+use Rattle.step.specs.StepLaws.{written-length}
 use Rattle.turns.specs.Bench.{Bench, afterAnswer, replaySerial, afterEvent}
 use Rattle.turns.specs.EventLaws.{serial-fits}
 use Rattle.turns.specs.Stand.{after, clockedBy, shownBy, closes}

@@ -24,7 +24,7 @@ use Rattle.stages.specs.declared.stage.Stage.the-variants.{ArrayOut}
 use Rattle.select.specs.Fall.{fall, showArray, lineLevel}
 use Rattle.select.specs.Rise.{rise}
 use Rattle.select.specs.declared.notes.Note.the-variants.{Nothing}
-use Rattle.chip.specs.Event.{written}
+use Rattle.step.specs.Step.{written}
 use Rattle.report.specs.Record.{codeClocks, mostShown, codeAfter, sampled, risen, shownAfter, noted}
 use Rattle.report.specs.RecordLaws.{counted-exact}
 use Rattle.report.specs.declared.record.Record.{Record}

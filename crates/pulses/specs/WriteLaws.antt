@@ -31,7 +31,7 @@ use Rattle.select.specs.Rise.{storeNote, writeRise, rise}
 use Rattle.select.specs.declared.notes.Level.the-variants.{Released}
 use Rattle.select.specs.declared.notes.Note.{Note}
 use Rattle.select.specs.declared.notes.Note.the-variants.{Nothing, Stored, HeldBack}
-use Rattle.chip.specs.Event.{written}
+use Rattle.step.specs.Step.{written}
 use Rattle.report.specs.Record.{codeClocks, sampled, risen, shownAfter, noted}
 use Rattle.report.specs.RecordLaws.{counted-exact}
 use Rattle.report.specs.declared.record.Record.{Record}

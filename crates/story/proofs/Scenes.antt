@@ -12,7 +12,8 @@ use lib.Seq.{drop-cons}
 use Rattle.trace.specs.Figures.{lastByte}
 use Rattle.trace.specs.Items.{shortEvents}
 use Rattle.chip.specs.Answers.{paper}
-use Rattle.chip.specs.Event.{event, written}
+use Rattle.step.specs.Step.{written}
+use Rattle.chip.specs.Event.{event}
 use Rattle.chip.specs.Outcomes.{paper-sole}
 use Rattle.chip.specs.RefusalLaws.{refusal-stays}
 use Rattle.chip.specs.declared.event.Answer.{Answer}

@@ -19,9 +19,10 @@ use Rattle.select.specs.Rise.{opened, codeRise, upperRise, lowerRise, writeRise
 use Rattle.pins.specs.Edges.{csFall, csRise, sckRise, sckFall}
 use Rattle.pins.specs.Sound.{rests, sound}
 use Rattle.pins.specs.Watch.{isOpen, seesRise}
-use Rattle.chip.specs.Event.{live, step, checks, event, written}
+use Rattle.step.specs.Step.{live, step, written}
+use Rattle.chip.specs.Event.{checks, event}
 use Rattle.chip.specs.Examples.Run.{same}
-use Rattle.chip.specs.Power.{fillRefusal, filled, powerRefusal, powerUp}
+use Rattle.supply.specs.Power.{fillRefusal, filled, powerRefusal, powerUp}
 use Rattle.report.specs.Record.{counted, codeAfter, sampled, risen, shownAfter, noted}
 use Rattle.report.specs.Text.{ascii, capitals, hex, decimal}
 use Rattle.turns.specs.Bench.{afterEvent}

@@ -6,7 +6,8 @@ use Prim.Native.Nat.{ℕ, _-_}
 use lib.Dec.{eqb, ltb}
 use Rattle.trace.specs.Figures.{lastByte}
 use Rattle.trace.specs.Items.{shortEvents, runEvents, itemEvents}
-use Rattle.chip.specs.Event.{event, written}
+use Rattle.step.specs.Step.{written}
+use Rattle.chip.specs.Event.{event}
 use Rattle.chip.specs.declared.event.Answer.{Answer}
 use Rattle.turns.specs.Bench.{Bench, runsOn, stopped, taken, replaySerial, afterEvent, afterEvents}
 use Rattle.turns.specs.Stand.{after, shownBy}

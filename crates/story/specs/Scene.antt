@@ -7,7 +7,8 @@ use lib.ListN.{replicate}
 use Rattle.trace.specs.Figures.{lastByte}
 use Rattle.trace.specs.Items.{shortEvents}
 use Rattle.select.specs.declared.notes.Note.{Note}
-use Rattle.chip.specs.Event.{event, written}
+use Rattle.step.specs.Step.{written}
+use Rattle.chip.specs.Event.{event}
 use Rattle.chip.specs.declared.event.Answer.{Answer}
 use Rattle.report.specs.Record.{mostShown}
 use Rattle.turns.specs.Bench.{Bench, replaySerial}

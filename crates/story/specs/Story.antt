@@ -9,8 +9,8 @@ use Rattle.trace.specs.Number.{reading}
 use Rattle.parts.specs.Figures.{figureOf}
 use Rattle.pins.specs.Watch.{isOpen}
 use Rattle.pins.specs.declared.state.State.{State}
-use Rattle.chip.specs.Power.{powerUp, fresh, filled}
-use Rattle.chip.specs.declared.power.Powered.{Powered}
+use Rattle.supply.specs.Power.{powerUp, fresh, filled}
+use Rattle.supply.specs.declared.power.Powered.{Powered}
 use Rattle.report.specs.Text.{ascii}
 use Rattle.turns.specs.Stand.{noEvent}
 use Rattle.turns.specs.declared.stand.Stand.{Stand}

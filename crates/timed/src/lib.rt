@@ -2,8 +2,8 @@
 // serial number.
 use chip::event::event;
 use chip::list::events;
-use chip::power::power_up;
 use select::notes::Level;
+use supply::power::power_up;
 
 fn told(refusal: u8, count: usize) -> u64 {
     if count < 72057594037927936 {

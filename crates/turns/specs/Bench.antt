@@ -7,7 +7,8 @@ use lib.Dec.{eqb}
 use lib.ListN.{replicate}
 use Rattle.parts.specs.Figures.{serialBytes}
 use Rattle.pins.specs.declared.state.State.{State}
-use Rattle.chip.specs.Event.{event, written}
+use Rattle.step.specs.Step.{written}
+use Rattle.chip.specs.Event.{event}
 use Rattle.chip.specs.declared.event.Answer.{Answer}
 use Rattle.report.specs.Lines.{selectLine}
 use Rattle.turns.specs.Page.{Page, pageOf, printed}

@@ -6,7 +6,8 @@ use mathlib.Core.List.{List, [], _∷_, _++_, append-assoc, append-nil}
 use Prim.Native.Nat.{ℕ}
 use lib.Dec.{eqb}
 use Rattle.pins.specs.declared.state.State.{State}
-use Rattle.chip.specs.Event.{event, written}
+use Rattle.step.specs.Step.{written}
+use Rattle.chip.specs.Event.{event}
 use Rattle.chip.specs.declared.event.Answer.{Answer}
 use Rattle.turns.specs.Bench.{Bench, afterEvents, runsOn, stopped, closing, taken, afterAnswer, replaySerial, afterEvent, deskOf, onPage, benchOf}
 use Rattle.turns.specs.Page.{Page, pageOf, printed}

@@ -12,7 +12,8 @@ use lib.ListN.{length, getD, drop, drop-of-length-le}
 use lib.Seq.{drop-cons}
 use Rattle.parts.specs.Figures.{figureOf, fitsSerial}
 use Rattle.chip.specs.Answers.{paper}
-use Rattle.chip.specs.Event.{event, written}
+use Rattle.step.specs.Step.{written}
+use Rattle.chip.specs.Event.{event}
 use Rattle.chip.specs.Outcomes.{paper-sole}
 use Rattle.chip.specs.RefusalLaws.{refusal-stays}
 use Rattle.chip.specs.declared.event.Answer.{Answer}

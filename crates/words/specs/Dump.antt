@@ -4,7 +4,7 @@ use mathlib.Core.Bool.{Bool, true, cond, _&&_}
 use mathlib.Core.List.{List, [], _∷_, _++_}
 use lib.Dec.{eqb}
 use lib.ListN.{length, take, drop}
-use Rattle.chip.specs.Power.{fresh}
+use Rattle.supply.specs.Power.{fresh}
 use Rattle.report.specs.Text.{ascii, hex}
 use Rattle.words.specs.Words.{address}
 

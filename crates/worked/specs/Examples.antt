@@ -17,7 +17,8 @@ use Rattle.select.specs.Rise.{opened, codeRise, upperRise, lowerRise, dummyRise
 use Rattle.pins.specs.Edges.{csFall, csRise, sckRise, sckFall, holdFall, holdRise}
 use Rattle.pins.specs.Sound.{rests, sound}
 use Rattle.pins.specs.Watch.{isOpen, seesRise}
-use Rattle.chip.specs.Event.{csStayed, live, step, checks, event, written}
+use Rattle.step.specs.Step.{csStayed, live, step, written}
+use Rattle.chip.specs.Event.{checks, event}
 use Rattle.chip.specs.Examples.Run.{allHold}
 use Rattle.worked.specs.Examples.Rules.{ofLines, ofCodes, ofOutput, ofWriting, ofGuards, ofHold, rules}
 use Rattle.worked.specs.Examples.Part4.{ofFast, ofGuarded, ofSleep, part4}
@@ -25,7 +26,7 @@ use Rattle.worked.specs.Examples.Part5.{ofSerial, ofLike4, part5}
 use Rattle.worked.specs.Examples.Calls.{allRefused, refusedEvents, allPowered, powerings, allFilled, fillings}
 use Rattle.worked.specs.Examples.Lists.{allListed, listings}
 use Rattle.chip.specs.List.{course, listRefusal, listed}
-use Rattle.chip.specs.Power.{fillRefusal, filled, powerRefusal, powerUp}
+use Rattle.supply.specs.Power.{fillRefusal, filled, powerRefusal, powerUp}
 pub mod Rules
 pub mod Part4
 pub mod Part5

@@ -29,7 +29,7 @@ use Rattle.pins.specs.declared.hold.Hold.{Hold}
 use Rattle.pins.specs.declared.hold.Hold.the-variants.{High, LowCsLow, LowCsHigh}
 use Rattle.pins.specs.declared.state.State.{State}
 use Rattle.chip.specs.Event.{event}
-use Rattle.chip.specs.Power.{fillRefusal, fresh, filled, powerUp}
+use Rattle.supply.specs.Power.{fillRefusal, fresh, filled, powerUp}
 use Rattle.chip.specs.declared.event.Answer.{Answer}
 use Rattle.chip.specs.Run.{Chip, answered, fromPowerUp}
 

@@ -11,9 +11,10 @@ use borrow.Author.Tests.{leb-true, eq-eqb, ne-eqb}
 use Rattle.parts.specs.FigureLaws.{Fair, fair}
 use Rattle.parts.specs.Figures.{figureOf, isPart, inMask, fitsSerial}
 use Rattle.pins.specs.Levels.{atRest}
-use Rattle.chip.specs.Event as chip
+use Rattle.step.specs.Step as chip
 use Rattle.chip.specs.EventLaws.{event-steps, checks-none}
-use Rattle.chip.specs.Event.{answerOf, checks, event, step, live, written}
+use Rattle.step.specs.Step.{step, live, written}
+use Rattle.chip.specs.Event.{answerOf, checks, event}
 use Rattle.chip.specs.Run.{Chip, poweredUp, answered, next, run}
 use Rattle.chip.specs.RunLaws.{next-length, next-sound}
 use Rattle.pins.specs.SoundLaws.{rest-sound}

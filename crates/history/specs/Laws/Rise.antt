@@ -34,7 +34,7 @@ use Rattle.stages.specs.declared.stage.Stage.the-variants.{Upper, Lower, Dummy,
 use Rattle.stages.specs.declared.stage.End.{End}
 use Rattle.stages.specs.declared.stage.End.the-variants.{Quiet, Drops, Sleeps}
 use Rattle.stages.specs.declared.stage.What.the-variants.{Array, Status, Ident, Serial}
-use Rattle.chip.specs.Event.{written}
+use Rattle.step.specs.Step.{written}
 use Rattle.history.specs.Bytes.{Byte, wrsrByte, Reading, latches, sleeps, idles, topBit, number, address, readAs, readTransfer}
 use Rattle.history.specs.History.{World, withLatch, storeIf, overlaid, overlay, keepIf, keepFirst, effect, atLeastOne}
 use Rattle.history.specs.Laws.Addresses.{next-place, start-one, start-two}

@@ -20,7 +20,7 @@ use Rattle.stages.specs.declared.stage.Stage.{Stage}
 use Rattle.stages.specs.declared.stage.Stage.the-variants.{Over}
 use Rattle.stages.specs.declared.stage.End.the-variants.{Quiet}
 use Rattle.stages.specs.declared.stage.Line.the-variants.{Down, Up}
-use Rattle.chip.specs.Event.{written}
+use Rattle.step.specs.Step.{written}
 use Rattle.history.specs.Wire.{Bit, closes}
 use Rattle.history.specs.Bytes.{Byte, byte, Reading, bitsValue, readTransfer}
 use Rattle.history.specs.History.{World, withLatch, effect, latchDrops}

@@ -20,7 +20,8 @@ use Rattle.stages.specs.declared.stage.Stage.{Stage}
 use Rattle.stages.specs.declared.stage.Stage.the-variants.{Closed, Asleep}
 use Rattle.pins.specs.Levels.{atRest, holdHigh}
 use Rattle.pins.specs.Edges.{silent, csFall, csRise, sckRise, sckFall, holdFall, holdRise}
-use Rattle.chip.specs.Event.{accepted, answerOf, csStayed, live, step, written}
+use Rattle.step.specs.Step.{accepted, csStayed, live, step, written}
+use Rattle.chip.specs.Event.{answerOf}
 use Rattle.chip.specs.Run.{Chip, answered}
 use Rattle.pins.specs.declared.hold.Hold.{Hold}
 use Rattle.pins.specs.declared.hold.Hold.the-variants.{High, LowCsLow, LowCsHigh}

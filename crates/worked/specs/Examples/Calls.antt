@@ -19,9 +19,9 @@ use Rattle.pins.specs.declared.state.State.{State}
 use Rattle.select.specs.Notes.{levelNumber, noteNumbers}
 use Rattle.chip.specs.Event.{event}
 use Rattle.chip.specs.Examples.Run.{same, stateNumbers}
-use Rattle.chip.specs.Power.{fillRefusal, fresh, filled, powerUp}
+use Rattle.supply.specs.Power.{fillRefusal, fresh, filled, powerUp}
 use Rattle.chip.specs.declared.event.Answer.{Answer}
-use Rattle.chip.specs.declared.power.Powered.{Powered}
+use Rattle.supply.specs.declared.power.Powered.{Powered}
 
 -- "Any other refusal returns its number with the state given; SO reads released, the note is nothing."
 abbrev pub stays : State → ℕ → Answer → Bool

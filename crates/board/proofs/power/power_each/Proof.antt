@@ -6,7 +6,7 @@ use native.Mathlib.Omega.{arith}
 use lib.ListN.{replicate}
 use borrow.Author.Needs.{needs}
 use Rattle.pins.specs.declared.state.State.{State}
-use Rattle.chip.specs.declared.power.Powered.{Powered}
+use Rattle.supply.specs.declared.power.Powered.{Powered}
 use Rattle.board.proofs.Places.{in-plan}
 use Rattle.board.specs.PowerLaws.{Powering, powering-starts, asked-inside, powering-on, powering-ends}
 use Rattle.board.proofs.power.power_each.Statement.{statement}

@@ -1,0 +1,4 @@
+pub mod Power
+pub mod Promises
+pub mod PowerLaws
+pub mod Outcomes

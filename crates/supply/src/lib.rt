@@ -1,0 +1,2 @@
+// Power-up, and a fresh array.
+pub mod power;
