@@ -52,11 +52,13 @@ address f code bs = number (topBit f code) (take (f .«address_bytes») bs) % f 
 abbrev pub wrsrByte : Figure → Bool → Byte → Byte
 wrsrByte f fell b = record { value = b .value; wp = cond (f .«wp_at_fall») fell (b .wp) }
 
--- what a transfer says: the latch's new value (WREN, WRDI), memory bytes from an address on (WRITE), status bytes (WRSR), sleep
--- (SLEEP), or nothing that could change anything. "Other op-codes and later bits that no rule names do nothing".
+-- what a transfer says: the latch's new value (WREN, WRDI), memory bytes from an address on (WRITE), that memory bytes from an
+-- address on be shown after a header of so many bytes (READ, FSTRD), status bytes (WRSR), sleep (SLEEP), or nothing that any of
+-- these rules reads. "Other op-codes and later bits that no rule names do nothing".
 pub data Reading : Type 0 where
   latches : Bool → Reading
   stores : ℕ → List Byte → Reading
+  shows : ℕ → ℕ → Reading
   keeps : List Byte → Reading
   sleeps : Reading
   idles : Reading
@@ -66,8 +68,8 @@ readAs f fell code bs Wren = latches true
 readAs f fell code bs Wrdi = latches false
 readAs f fell code bs Rdsr = idles
 readAs f fell code bs Wrsr = keeps (map (wrsrByte f fell) bs)
-readAs f fell code bs Read = idles
-readAs f fell code bs Fstrd = idles
+readAs f fell code bs Read = shows (address f code bs) (1 + f .«address_bytes»)
+readAs f fell code bs Fstrd = shows (address f code bs) (1 + f .«address_bytes» + f .dummy)
 readAs f fell code bs Write = stores (address f code bs) (drop (f .«address_bytes») bs)
 readAs f fell code bs Rdid = idles
 readAs f fell code bs Snr = idles

@@ -16,7 +16,7 @@ use Rattle.worked.specs.Examples.Rules.{ofLines, ofCodes, ofOutput, ofWriting, 
 use Rattle.worked.specs.Examples.Part4.{ofGuarded, ofSleep}
 use Rattle.worked.specs.Examples.Part5.{ofSerial, ofLike4, part5}
 use Rattle.history.specs.Wire.{put, refusal, afterOne, act, acts}
-use Rattle.history.specs.Transfers.{transferFrom, spans}
+use Rattle.history.specs.Transfers.{rises, transferFrom, spans}
 use Rattle.history.specs.Bytes.{bitsValue, eights, wholeBytes, topBit, number, address, readAs, readTransfer}
 use Rattle.history.specs.History.{storeIf, overlay, keepIf, keepFirst, effect, atLeastOne, latchDrops, spanned, inOrder, isSleep, obeyed, history}
 
@@ -43,5 +43,5 @@ blocksAfter =
     (idle 1 0x0C false false)
 
 pub examples : T (toldAll (blocksAfter ∷ starred ++ rules ++ ofGuarded ++ ofSleep ++ part5))
-unfolding clocked starred rules ofLines ofCodes ofOutput ofWriting ofGuards ofHold ofGuarded ofSleep part5 ofSerial ofLike4 history obeyed isSleep inOrder spanned latchDrops atLeastOne effect keepFirst keepIf overlay storeIf readTransfer readAs address number topBit wholeBytes eights bitsValue transferFrom spans acts act afterOne refusal put figureOf command firstProtected mayStore mayKeep
+unfolding clocked starred rules ofLines ofCodes ofOutput ofWriting ofGuards ofHold ofGuarded ofSleep part5 ofSerial ofLike4 history obeyed isSleep inOrder spanned latchDrops atLeastOne effect keepFirst keepIf overlay storeIf readTransfer readAs address number topBit wholeBytes eights bitsValue rises transferFrom spans acts act afterOne refusal put figureOf command firstProtected mayStore mayKeep
 examples = tt

@@ -12,8 +12,8 @@ use Rattle.parts.specs.declared.figures.Figure.{Figure}
 use Rattle.parts.specs.declared.guards.Verdict.{Verdict}
 use Rattle.parts.specs.declared.guards.Verdict.the-variants.{Allowed, HeldBack}
 use Rattle.history.specs.Wire.{rest, acts}
-use Rattle.history.specs.Transfers.{Transfer, Span, transfer, cut, spans}
-use Rattle.history.specs.Bytes.{Byte, wholeBytes, Reading, latches, stores, keeps, sleeps, idles, readTransfer}
+use Rattle.history.specs.Transfers.{Transfer, rises, Span, transfer, cut, spans}
+use Rattle.history.specs.Bytes.{Byte, wholeBytes, Reading, latches, stores, shows, keeps, sleeps, idles, readTransfer}
 
 -- what the history speaks of
 pub record World : Type 0 where
@@ -51,6 +51,7 @@ keepFirst f w (b ∷ bs) = keepIf f w b (mayKeep f (w .latch) (w .kept) (b .wp))
 unfoldable pub effect : Figure → World → Reading → World
 effect f w (latches on) = withLatch w on
 effect f w (stores start bs) = overlay f start 0 w bs
+effect f w (shows start header) = w
 effect f w (keeps bs) = keepFirst f w bs
 effect f w sleeps = w
 effect f w idles = w
@@ -63,13 +64,14 @@ atLeastOne (b ∷ bs) = true
 unfoldable pub latchDrops : Reading → Bool
 latchDrops (latches on) = false
 latchDrops (stores start bs) = atLeastOne bs
+latchDrops (shows start header) = false
 latchDrops (keeps bs) = atLeastOne bs
 latchDrops sleeps = false
 latchDrops idles = false
 
 -- a transfer, as far as it came
 abbrev pub reading : Figure → Bool → Transfer → Reading
-reading f fell t = readTransfer f fell (wholeBytes (t .bits))
+reading f fell t = readTransfer f fell (wholeBytes (rises (t .edges)))
 
 abbrev pub transferred : Figure → World → Reading → Bool → World
 transferred f w r closed = cond (closed && latchDrops r) (withLatch (effect f w r) false) (effect f w r)
@@ -87,6 +89,7 @@ inOrder f w (span ∷ more) = inOrder f (spanned f w span) more
 unfoldable pub isSleep : Reading → Bool
 isSleep (latches on) = false
 isSleep (stores start bs) = false
+isSleep (shows start header) = false
 isSleep (keeps bs) = false
 isSleep sleeps = true
 isSleep idles = false

@@ -2,6 +2,7 @@ pub mod Wire
 pub mod Transfers
 pub mod Bytes
 pub mod History
+pub mod Rows
 pub mod Run
 pub mod Examples
 pub mod Laws

@@ -84,11 +84,12 @@ pub data Act : Type 0 where
   opens : Bool → Act
   closes : Act
   takes : Bit → Act
+  falls : Act
   cuts : Act
   passes : Act
 
 -- "So 0 lowers /CS, 3 raises SCK, 10 cuts power." "A seen fall of /CS opens a select, a seen rise closes it". "Each seen rise
---  of SCK in an open select takes SI". "Setting a pin to the level it has is accepted and has no effect."
+--  of SCK in an open select takes SI", and "Output moves on a seen fall of SCK". "Setting a pin to the level it has is accepted and has no effect."
 unfoldable pub act : Wire → ℕ → Act
 act l code =
     cond (not (l .power)) passes
@@ -96,7 +97,8 @@ act l code =
     (cond (eqb code 0 && l .cs && l .hold) (opens (l .wp))
     (cond (eqb code 1 && not (l .cs) && l .hold) closes
     (cond (eqb code 3 && not (l .sck) && l .hold && not (l .cs)) (takes (record { si = l .si; wp = l .wp }))
-    passes))))
+    (cond (eqb code 2 && l .sck && l .hold && not (l .cs)) falls
+    passes)))))
 
 -- the acts of a list of events, in order
 unfoldable pub acts : Wire → List ℕ → List Act

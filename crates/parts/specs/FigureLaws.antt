@@ -38,6 +38,11 @@ abbrev hasSnr : List Op → Bool
 hasSnr [] = false
 hasSnr (op ∷ ops) = isSnr (op .command) || hasSnr ops
 
+-- how the array lies in rows: they are not counted, or so many of them, at least two, fill it
+pub data Rowed (size row : ℕ) : Type 0 where
+  unrowed : row ≡ 0 → Rowed size row
+  rowed : (count : ℕ) → 2 ≤ count → 0 < row → size ≡ count * row → Rowed size row
+
 clash : false ≡ true → _≡_ {A = ℕ} 0 1
 clash h = cc
 
@@ -54,6 +59,11 @@ pub record Fair (f : Figure) : Type 0 where
   pub header : Header (f .«address_bytes») (f .top)
   -- a part has a serial number exactly if it knows SNR
   pub numbered : hasSnr (f .ops) ≡ ltb 0 (f .serial)
+  pub rows : Rowed (f .size) (f .row)
+  -- an address and one fit four bytes
+  pub short : f .size ≤ 0xFFFFFFFF
+  -- one dummy byte, or none
+  pub waits : f .dummy ≤ 1
 
 pub data AllFair : List Figure → Type 0 where
   done : AllFair []
@@ -62,19 +72,19 @@ pub data AllFair : List Figure → Type 0 where
 -- each row; a new one has its line here
 like-part-1 : Fair fm25l04
 like-part-1 =
-    record { mask = lit< tt; pages = refl; top = lit≤ tt; bits = 1; low = refl; header = one 3 refl refl; numbered = refl }
+    record { mask = lit< tt; pages = refl; top = lit≤ tt; bits = 1; low = refl; header = one 3 refl refl; numbered = refl; rows = unrowed refl; short = lit≤ tt; waits = lit≤ tt }
 
 like-part-3 : Fair fm25c160
 like-part-3 =
-    record { mask = lit< tt; pages = refl; top = lit≤ tt; bits = 3; low = refl; header = two refl refl; numbered = refl }
+    record { mask = lit< tt; pages = refl; top = lit≤ tt; bits = 3; low = refl; header = two refl refl; numbered = refl; rows = rowed 512 (lit≤ tt) (lit< tt) refl; short = lit≤ tt; waits = lit≤ tt }
 
 like-part-4 : Fair fm25v01
 like-part-4 =
-    record { mask = lit< tt; pages = refl; top = lit≤ tt; bits = 6; low = refl; header = two refl refl; numbered = refl }
+    record { mask = lit< tt; pages = refl; top = lit≤ tt; bits = 6; low = refl; header = two refl refl; numbered = refl; rows = rowed 2048 (lit≤ tt) (lit< tt) refl; short = lit≤ tt; waits = lit≤ tt }
 
 like-part-5 : Fair fm25vn01
 like-part-5 =
-    record { mask = lit< tt; pages = refl; top = lit≤ tt; bits = 6; low = refl; header = two refl refl; numbered = refl }
+    record { mask = lit< tt; pages = refl; top = lit≤ tt; bits = 6; low = refl; header = two refl refl; numbered = refl; rows = rowed 2048 (lit≤ tt) (lit< tt) refl; short = lit≤ tt; waits = lit≤ tt }
 
 all-fair : AllFair rows
 all-fair = also like-part-1 (also like-part-1 (also like-part-3 (also like-part-4 (also like-part-5 done))))

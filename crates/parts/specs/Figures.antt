@@ -6,8 +6,8 @@
 -- enable, the kept bit (WPEN) that must be set for /WP low to hold back the status byte, 0 where none need be; bp0 and
 -- bp1, the block bits BP0 and BP1; dummy, how many dummy bytes follow FSTRD's address, 1 or none; wp_at_fall, whether /WP at the
 -- fall of /CS counts for a status byte and not at the byte's first rise; ident, the bytes that RDID shows, zeros where the part has
--- none; serial, how many bytes the serial number has that SNR shows, 0 where the part has none; ops, the op-codes with their
--- commands.
+-- none; serial, how many bytes the serial number has that SNR shows, 0 where the part has none; row, how many bytes a row
+-- of the array has, where row cycles are counted (Wish 9), else 0; ops, the op-codes with their commands.
 use Prim.Native.Nat.{ℕ}
 use mathlib.Core.Bool.{Bool, true, false, _&&_, _||_}
 use mathlib.Core.List.{List, [], _∷_}
@@ -59,6 +59,7 @@ fm25l04 =
       «wp_at_fall» = false;
       ident = unnamed;
       serial = 0;
+      row = 0;
       ops = common (op 0x03 Read ∷ op 0x0B Read ∷ op 0x02 Write ∷ op 0x0A Write ∷ filler ∷ filler ∷ []);
     }
 
@@ -67,7 +68,7 @@ abbrev pub fm25l04b : Figure
 fm25l04b = fm25l04
 
 -- "3 | FM25C160 | 2,048 | two bytes, upper five bits ignored | 8Ch". "READ 03h, WRITE 02h." "/WP low with WPEN set holds
---  back the status byte only."
+--  back the status byte only." 003: "512 rows each 32 bits wide. Each 4 bytes in the address mark the beginning of a new row."
 abbrev pub fm25c160 : Figure
 fm25c160 =
     record {
@@ -85,6 +86,7 @@ fm25c160 =
       «wp_at_fall» = false;
       ident = unnamed;
       serial = 0;
+      row = 4;
       ops = common (op 0x03 Read ∷ op 0x02 Write ∷ filler ∷ filler ∷ filler ∷ filler ∷ []);
     }
 
@@ -93,6 +95,7 @@ fm25c160 =
 --  are 004's. /W guards the status byte only, with WPEN set, and its level at the fall of /S counts for the whole select. SLEEP
 --  B9h takes effect at the rise of /S". 004, Table 3: "3000h to 3FFFh (upper ¼)", "2000h to 3FFFh (upper
 --  ½)". Table 6: "six bytes of the continuation code 7Fh followed by the single byte C2h", then "21h" and a byte of zeros.
+-- 004, "Endurance": "2K rows of 64-bits each".
 -- Parts 4 and 5 differ in what C3h does and in the serial number, and in nothing else.
 abbrev fm25v : Op → ℕ → Figure
 fm25v snr serial =
@@ -111,6 +114,7 @@ fm25v snr serial =
       «wp_at_fall» = true;
       ident = 0x7F ∷ 0x7F ∷ 0x7F ∷ 0x7F ∷ 0x7F ∷ 0x7F ∷ 0xC2 ∷ 0x21 ∷ 0x00 ∷ [];
       serial = serial;
+      row = 8;
       ops = common (op 0x03 Read ∷ op 0x0B Fstrd ∷ op 0x02 Write ∷ op 0xB9 Sleep ∷ op 0x9F Rdid ∷ snr ∷ []);
     }
 

@@ -38,6 +38,8 @@ pub struct Figure {
     pub ident: [u8; IDENT],
     // Bytes of the serial number that SNR shows; 0: the part has none.
     pub serial: usize,
+    // Bytes of a row, for whoever counts row cycles; 0: none are counted.
+    pub row: usize,
     // Its op-codes with their commands.
     pub ops: [Op; OPS],
 }
@@ -124,6 +126,7 @@ const FM25L04: Figure = Figure {
     wp_at_fall: false,
     ident: [0; IDENT],
     serial: 0,
+    row: 0,
     ops: [
         WREN,
         WRDI,
@@ -156,6 +159,7 @@ const FM25C160: Figure = Figure {
     wp_at_fall: false,
     ident: [0; IDENT],
     serial: 0,
+    row: 4,
     ops: [
         WREN,
         WRDI,
@@ -185,6 +189,7 @@ const FM25V01: Figure = Figure {
     wp_at_fall: true,
     ident: [0x7F, 0x7F, 0x7F, 0x7F, 0x7F, 0x7F, 0xC2, 0x21, 0x00],
     serial: 0,
+    row: 8,
     ops: [
         WREN,
         WRDI,

@@ -1,18 +1,18 @@
--- Bytes of one value written round an array: past its size no more of them changes it, and how many are stored is a sum. No
--- chip is in this. Assumes nothing.
+-- Bytes of one value written round an array: past its size no more of them changes it, and how many are stored, and which one
+-- last, is a sum. No chip is in this. Assumes nothing.
 use Prim.Native.Nat.{ℕ, zero, suc, _+_, _-_, _*_, _/_, _%_, _<_, _≤_}
 use mathlib.Core.Path.{_≡_, refl, sym, ap, _∙_}
-use mathlib.Core.Bool.{Bool, true, false, cond}
+use mathlib.Core.Bool.{Bool, true, false, cond, _&&_}
 use mathlib.Core.Logic.{⊎-elim}
 use mathlib.Core.List.{List}
-use native.Mathlib.Nat.{add-zero, suc-add, add-mul, mod-lt, mod-eq-of-lt, mod-self, mod-mod, suc-mod, add-mod-right, div-add-mod', div-mul-le-self, div-eq-of-lt-le, mul-le-mul-left, le-trans, eq-or-lt-of-le}
+use native.Mathlib.Nat.{add-zero, add-suc, suc-add, add-mul, mod-lt, mod-eq-of-lt, mod-self, mod-mod, suc-mod, add-mod-right, div-add-mod', div-mul-le-self, div-eq-of-lt-le, mul-le-mul-left, le-trans, eq-or-lt-of-le}
 use native.Mathlib.Numerals.{add-one}
 use native.Mathlib.Omega.{arith}
-use borrow.Author.Tests.{lt-ltb, ltb-true, ltb-false, eqb-true, eqb-false}
+use borrow.Author.Tests.{lt-ltb, le-ltb, ne-eqb, ltb-true, ltb-false, eqb-true, eqb-false}
 use lib.Dec.{eqb, ltb}
 use lib.ListN.{length, set, length-set}
 use lib.Seq.{set-set, set-comm}
-use Rattle.pulses.specs.Sums.{put, one, fillBytes, stores, least, before, storedIn}
+use Rattle.pulses.specs.Sums.{put, one, fillBytes, stores, least, before, storedIn, lastPut, lastIn, lastStored}
 
 pub put-length : (limit byte : ℕ) (xs : List ℕ) (at : ℕ) → length (put limit byte xs at) ≡ length xs
 put-length limit byte xs at = go (ltb at limit)
@@ -248,3 +248,58 @@ module _ (size limit : ℕ) (some : 0 < size) (fits : limit ≤ size) where
   -- the difference of two such sums
   pub stored-asks : (at n : ℕ) → (before size limit at ≤ before size limit (at + n)) × (storedIn size limit at n ≤ n)
   stored-asks at n = (omega (arith, stores-sum n at), rw (stored-in n at) (stores-few n at))
+
+  -- ---- and which one last
+
+  -- one more byte
+  stores-more : (n x : ℕ) → stores size limit (suc n) x ≡ stores size limit n x + one limit ((x + n) % size)
+  stores-more n x = omega (arith, stores-sum (suc n) x, stores-sum n x, ap (before size limit) (add-suc x n), before-suc (x + n))
+
+  last-more : (n x last : ℕ) → lastIn size limit (suc n) x last ≡ lastPut limit (lastIn size limit n x last) ((x + n) % size)
+  last-more zero x last = ap (λ (k : ℕ). lastPut limit last (k % size)) (sym (add-zero x))
+  last-more (suc n) x last =
+      last-more n (suc x) (lastPut limit last (x % size))
+      ∙ ap (λ (k : ℕ). lastPut limit (lastIn size limit (suc n) x last) (k % size)) (next x n)
+    where
+      next : (x j : ℕ) → suc x + j ≡ x + suc j
+      next x j = omega arith
+
+  -- the last one of them, where any is stored, by the address after them
+  abbrev lastTo : ℕ → ℕ
+  lastTo end = cond (ltb 0 end && ltb end limit) end limit
+
+  after : (x : ℕ) → lastTo (suc x % size) ≡ least (suc (x % size)) limit
+  after x = ⊎-elim ends stays (eq-or-lt-of-le (mod-lt x some))
+    where
+      stays : suc (x % size) < size → lastTo (suc x % size) ≡ least (suc (x % size)) limit
+      stays l = ap lastTo (round-stays x l .1) ∙ rw (lt-ltb 0 (suc (x % size)) (omega arith))
+
+      ends : suc (x % size) ≡ size → lastTo (suc x % size) ≡ least (suc (x % size)) limit
+      ends e = ap lastTo (round-ends x e .1) ∙ rw (le-ltb (suc (x % size)) limit (omega arith))
+
+  pub last-stored : (n x last : ℕ) → lastIn size limit n x last ≡ lastStored limit (stores size limit n x) ((x + n) % size) last
+  last-stored zero x last = refl
+  last-stored (suc n) x last =
+      last-more n x last
+      ∙ ap (λ (k : ℕ). lastPut limit k at) (last-stored n x last)
+      ∙ go (ltb at limit) refl
+      ∙ (λ i. cond (eqb (sym (stores-more n x) i) 0) last (sym (after (x + n)) i))
+      ∙ ap (λ (k : ℕ). lastStored limit (stores size limit (suc n) x) (k % size) last) (sym (add-suc x n))
+    where
+      at : ℕ
+      at = (x + n) % size
+
+      go : (v : Bool) → ltb at limit ≡ v
+          → cond v (at + 1) (lastStored limit (stores size limit n x) at last) ≡ cond (eqb (stores size limit n x + cond v 1 0) 0) last (least (suc at) limit)
+      go true e = rw (ne-eqb (stores size limit n x + 1) 0 (λ z. omega arith)) (own (ltb (suc at) limit) refl)
+        where
+          own : (w : Bool) → ltb (suc at) limit ≡ w → at + 1 ≡ cond w (suc at) limit
+          own true d = omega arith
+          own false d = omega (arith, ltb-true at limit e, ltb-false (suc at) limit d)
+      go false e =
+          let held : limit ≤ at = ltb-false at limit e in
+          rw (add-zero (stores size limit n x), le-ltb at limit held, le-ltb (suc at) limit (omega arith), neither (ltb 0 at))
+        where
+          neither : (w : Bool) → (w && false) ≡ false
+          neither true = refl
+          neither false = refl

@@ -161,7 +161,7 @@ module _ (part kept : ℕ) (si wp : Line) (latch : Bool) (selects : ℕ) (told :
   closed-still (StatusOut level bit) shut safe = cc
   closed-still (IdentOut level bit at) shut safe = cc
   closed-still (SerialOut level bit at) shut safe = cc
-  closed-still (Writing came shift at) shut safe = cc
+  closed-still (Writing came shift last at) shut safe = cc
   closed-still (Keeping wp′ shift) shut safe = cc
   closed-still (Over end) shut safe = cc
 

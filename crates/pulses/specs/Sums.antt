@@ -2,7 +2,7 @@
 use Prim.Native.Nat.{ℕ, zero, suc, _+_, _-_, _*_, _/_, _%_}
 use mathlib.Core.Bool.{Bool, cond, _&&_, _||_, not}
 use mathlib.Core.List.{List}
-use lib.Dec.{leb, ltb}
+use lib.Dec.{eqb, leb, ltb}
 use lib.ListN.{length, set}
 use Rattle.parts.specs.Figures.{figureOf, fitsPart}
 use Rattle.parts.specs.Guards.{firstProtected}
@@ -117,10 +117,26 @@ before size limit x = x / size * limit + least (x % size) limit
 abbrev pub storedIn : ℕ → ℕ → ℕ → ℕ → ℕ
 storedIn size limit at bytes = before size limit (at + bytes) - before size limit at
 
+-- the byte stored last, one by one: its address and one
+abbrev pub lastPut : ℕ → ℕ → ℕ → ℕ
+lastPut limit last at = cond (ltb at limit) (at + 1) last
+
+abbrev pub lastIn : ℕ → ℕ → ℕ → ℕ → ℕ → ℕ
+lastIn size limit zero x last = last
+lastIn size limit (suc n) x last = lastIn size limit n (suc x) (lastPut limit last (x % size))
+
+-- and at once, from the address after them all: where any is stored, it is the one before that address or the last one below the
+-- limit. Before address 0 lies the array's last one, and where that is stored it is both.
+abbrev pub lastStored : ℕ → ℕ → ℕ → ℕ → ℕ
+lastStored limit stored end last = cond (eqb stored 0) last (cond (ltb 0 end && ltb end limit) end limit)
+
 -- a WRITE: so many bytes were written, and the next one begins
-unfoldable pub writeOn : Stand → ℕ → ℕ → ℕ → Stand
-writeOn stand size at bytes =
-    inStage stand (Writing Bytes noBits ((at + bytes) % size)) (more (stand .told) (bytes * 8) 0 (storedIn size (storeLimit (stand .chip)) at bytes))
+unfoldable pub writeOn : Stand → ℕ → ℕ → ℕ → ℕ → Stand
+writeOn stand size last at bytes =
+    let limit = storeLimit (stand .chip) in
+    let stored = storedIn size limit at bytes in
+    let end = (at + bytes) % size in
+    inStage stand (Writing Bytes noBits (lastStored limit stored end last) end) (more (stand .told) (bytes * 8) 0 stored)
 
 -- and the array after it
 unfoldable pub arrayOn : State → List ℕ → ℕ → ℕ → List ℕ

@@ -34,7 +34,12 @@ fn skip_open(stand: Stand, array: &mut [u8], pulses: u64) -> Skipped
             Skipped { stand, left: 0 }
         }
         Stage::ArrayOut { level, bit, at } => skip_read(stand, array, pulses, level, bit, at),
-        Stage::Writing { came, shift, at } => skip_write(stand, array, pulses, came, shift, at),
+        Stage::Writing {
+            came,
+            shift,
+            last,
+            at,
+        } => skip_write(stand, array, pulses, came, shift, last, at),
         _ => nothing(stand, pulses),
     }
 }

@@ -6,7 +6,7 @@ ghost use lib.ListN.{length};
 ghost use Rattle.stages.specs.Wp.{isUp};
 ghost use Rattle.stages.specs.declared.stage.Stage.the-variants.{Writing};
 ghost use Rattle.pulses.specs.Pulse.{Skips};
-ghost use Rattle.pulses.specs.Sums.{most, countsOn, steady, idle, stillByte, storeLimit, put, fillBytes, least, before, storedIn, writeOn, arrayOn};
+ghost use Rattle.pulses.specs.Sums.{most, countsOn, steady, idle, stillByte, storeLimit, put, fillBytes, least, before, storedIn, lastStored, writeOn, arrayOn};
 use crate::sums::Skipped;
 use crate::sums::count_more;
 use crate::sums::nothing;
@@ -71,6 +71,21 @@ fn stored_in(size: u64, limit: u64, at: u64, bytes: u64) -> u64
     stored_before(size, limit, at + bytes) - stored_before(size, limit, at)
 }
 
+// The byte stored last, its address and one: `end` is the address after all the bytes.
+fn last_stored(limit: usize, stored: u64, end: usize, last: u32) -> u32
+    requires { ⌜ limit ≤ 0xFFFFFFFF ⌝ }
+    ensures { λ r. ⌜ r ≡ lastStored limit stored end last ⌝ }
+{
+    if stored == 0 {
+        return last;
+    }
+    if (0 < end) & (end < limit) {
+        end as u32
+    } else {
+        limit as u32
+    }
+}
+
 // A byte where it may be stored.
 fn put_byte(array: &mut [u8], limit: usize, byte: u8, at: usize)
     requires { ⌜ at < length (now array) ⌝ }
@@ -120,23 +135,26 @@ fn write_bytes(chip: State, array: &mut [u8], at: usize, bytes: u64)
 }
 
 // A WRITE: so many bytes were written, and the next one begins.
-fn write_on(stand: Stand, size: usize, at: usize, bytes: u64) -> Stand
+fn write_on(stand: Stand, size: usize, last: u32, at: usize, bytes: u64) -> Stand
     requires { ⌜ at < size ⌝ }
+    requires { ⌜ size ≤ 0xFFFFFFFF ⌝ }
     requires { ⌜ storeLimit (stand .chip) ≤ size ⌝ }
     requires { ⌜ at + bytes ≤ most ⌝ }
     requires { ⌜ stand .told .clocks + bytes * 8 ≤ most ⌝ }
     requires { ⌜ stand .told .shown + 0 ≤ most ⌝ }
     requires { ⌜ stand .told .stored + bytes ≤ most ⌝ }
-    ensures { λ r. ⌜ r ≡ writeOn stand size at bytes ⌝ }
+    ensures { λ r. ⌜ r ≡ writeOn stand size last at bytes ⌝ }
 {
     let chip = stand.chip;
     let told = stand.told;
     let limit = store_limit(chip);
     let stored = stored_in(size as u64, limit as u64, at as u64, bytes);
+    let end = (at + bytes as usize) % size;
     let stage = Stage::Writing {
         came: Came::Bytes,
         shift: NO_BITS,
-        at: (at + bytes as usize) % size,
+        last: last_stored(limit, stored, end, last),
+        at: end,
     };
     let chip = State { stage, ..chip };
     let told = count_more(told, bytes * 8, 0, stored);
@@ -154,12 +172,13 @@ pub(crate) fn skip_write(
     pulses: u64,
     came: Came,
     shift: u16,
+    last: u32,
     at: usize,
 ) -> Skipped
     requires { ⌜ steady (stand .chip) (length (now array)) ≡ true ⌝ }
     requires { ⌜ idle (stand .chip) ≡ false ⌝ }
     requires { ⌜ countsOn (stand .told) pulses ≡ true ⌝ }
-    requires { ⌜ stand .chip .stage ≡ Writing came shift at ⌝ }
+    requires { ⌜ stand .chip .stage ≡ Writing came shift last at ⌝ }
     ensures { λ r. ⌜ r .left ≤ pulses ⌝ }
     ensures { λ r. ⌜ Skips stand (now (array .entry)) pulses r (now (array .exit)) ⌝ }
 {
@@ -171,7 +190,7 @@ pub(crate) fn skip_write(
     if bytes == 0 {
         return nothing(stand, pulses);
     }
-    let stand = write_on(stand, array.len(), at, bytes);
+    let stand = write_on(stand, array.len(), last, at, bytes);
     write_bytes(chip, array, at, bytes);
     Skipped {
         stand,

@@ -60,7 +60,7 @@ fall f serial xs status (Ready Serial at) = showSerial serial at 7
 fall f serial xs status (ArrayOut level bit at) =
     cond (eqb bit 0) (showArray xs (nextAddress f at) 7) (showArray xs at (bit - 1))
 fall f serial xs status (StatusOut level bit) = cond (eqb bit 0) (Over Quiet) (showStatus status (bit - 1))
-fall f serial xs status (Writing came shift at) = Writing came shift at
+fall f serial xs status (Writing came shift last at) = Writing came shift last at
 fall f serial xs status (Keeping wp shift) = Keeping wp shift
 fall f serial xs status (Over end) = Over end
 fall f serial xs status (Dummy shift at) = Dummy shift at
@@ -82,7 +82,7 @@ stageLevel (Lower purpose shift page) = Released
 stageLevel (Ready what at) = Released
 stageLevel (ArrayOut level bit at) = lineLevel level
 stageLevel (StatusOut level bit) = lineLevel level
-stageLevel (Writing came shift at) = Released
+stageLevel (Writing came shift last at) = Released
 stageLevel (Keeping wp shift) = Released
 stageLevel (Over end) = Released
 stageLevel (Dummy shift at) = Released

@@ -10,6 +10,7 @@ use Rattle.parts.specs.declared.commands.Command.the-variants.{Wren, Wrdi, Rdsr
 use Rattle.parts.specs.declared.guards.Verdict as verdict
 use Rattle.stages.specs.Bits.{noBits, takeBit}
 use Rattle.stages.specs.Wp.{isUp, cameUp, byteWp, byteCame}
+use Rattle.stages.specs.Last.{lastBy}
 use Rattle.stages.specs.Address.{afterCode, upperPage, afterAddress, nextAddress}
 use Rattle.select.specs.declared.notes.Note.{Note}
 use Rattle.select.specs.declared.notes.Note.the-variants.{Nothing, Latch, Stored, HeldBack, KeptSet, KeptHeldBack}
@@ -92,18 +93,21 @@ storeNote at byte (verdict.the-variants.HeldBack reason) = HeldBack at reason
 
 -- "WRITE stores each data byte at the eighth rise of that byte, then steps the address, rolling over.
 --  A byte held back steps the address too (H)." /WP is the byte's own: `byteCame`.
-abbrev pub writeTaken : Figure → Seen → Came → ℕ → Taken → Risen
-writeTaken f seen came at (Part more) = quiet seen (Writing came more at)
-writeTaken f seen came at (Whole byte) =
+abbrev pub wroteBy : Figure → Seen → ℕ → ℕ → ℕ → verdict.Verdict → Risen
+wroteBy f seen last at byte verdict =
     record {
-      stage = Writing Bytes noBits (nextAddress f at);
+      stage = Writing Bytes noBits (lastBy last at verdict) (nextAddress f at);
       latch = seen .latch;
       kept = seen .kept;
-      note = storeNote at byte (mayStore f (seen .latch) (seen .kept) (cameUp came) at);
+      note = storeNote at byte verdict;
     }
 
-unfoldable pub writeRise : Figure → Seen → Came → ℕ → ℕ → Risen
-writeRise f seen came shift at = writeTaken f seen (byteCame came shift (seen .wp)) at (takeBit shift (seen .si))
+abbrev pub writeTaken : Figure → Seen → Came → ℕ → ℕ → Taken → Risen
+writeTaken f seen came last at (Part more) = quiet seen (Writing came more last at)
+writeTaken f seen came last at (Whole byte) = wroteBy f seen last at byte (mayStore f (seen .latch) (seen .kept) (cameUp came) at)
+
+unfoldable pub writeRise : Figure → Seen → Came → ℕ → ℕ → ℕ → Risen
+writeRise f seen came shift last at = writeTaken f seen (byteCame came shift (seen .wp)) last at (takeBit shift (seen .si))
 
 -- "keeps the byte under the part's mask. Further bytes do nothing (H)."
 abbrev pub keptBy : Figure → Seen → ℕ → verdict.Verdict → Risen
@@ -129,7 +133,7 @@ rise f seen (Lower purpose shift page) = lowerRise f seen purpose shift page
 rise f seen (Ready what at) = quiet seen (Ready what at)
 rise f seen (ArrayOut level bit at) = quiet seen (ArrayOut level bit at)
 rise f seen (StatusOut level bit) = quiet seen (StatusOut level bit)
-rise f seen (Writing came shift at) = writeRise f seen came shift at
+rise f seen (Writing came shift last at) = writeRise f seen came shift last at
 rise f seen (Keeping wp shift) = keepRise f seen wp shift
 rise f seen (Over end) = quiet seen (Over end)
 rise f seen (Dummy shift at) = dummyRise seen shift at

@@ -1,12 +1,12 @@
 -- A seen rise and a seen fall of SCK keep a stage sound, over any part's figures. Assumes nothing.
-use Prim.Native.Nat.{ℕ, _+_, _-_, _*_}
+use Prim.Native.Nat.{ℕ, _+_, _-_, _*_, _<_}
 use mathlib.Core.Path.{_≡_, refl}
-use mathlib.Core.Bool.{Bool, true, false, cond, _&&_}
+use mathlib.Core.Bool.{Bool, true, false, cond, _&&_, _||_}
 use mathlib.Core.List.{List}
 use native.Mathlib.Omega.{arith}
-use borrow.Author.Tests.{lt-ltb, ltb-true}
+use borrow.Author.Tests.{lt-ltb, le-leb, ltb-true}
 use lib.Bits.{bitAnd, and-le-r}
-use lib.Dec.{eqb, ltb}
+use lib.Dec.{eqb, leb, ltb}
 use Rattle.parts.specs.Commands.{command}
 use Rattle.parts.specs.Figures.{identBytes}
 use Rattle.parts.specs.FigureLaws.{Fair, snr-numbered}
@@ -15,17 +15,19 @@ use Rattle.laws.specs.TestLaws.{both, left, right}
 use Rattle.parts.specs.declared.figures.Figure.{Figure}
 use Rattle.parts.specs.declared.commands.Command.{Command}
 use Rattle.parts.specs.declared.commands.Command.the-variants.{Wren, Wrdi, Rdsr, Wrsr, Read, Fstrd, Write, Rdid, Snr, Sleep, Other}
-use Rattle.parts.specs.Guards.{mayKeep}
+use Rattle.parts.specs.Guards.{mayStore, mayKeep}
 use Rattle.parts.specs.declared.guards.Verdict as verdict
 use Rattle.stages.specs.Address.{upperPage, nextAddress}
-use Rattle.stages.specs.Bits.{takeBit}
-use Rattle.stages.specs.Wp.{isUp, cameUp, byteWp, byteCame}
+use Rattle.stages.specs.Bits.{noBits, takeBit}
+use Rattle.stages.specs.Last.{lastBy}
+use Rattle.stages.specs.Wp.{isUp, cameUp, someCame, cameWith, byteWp, byteCame}
 use Rattle.select.specs.Fall.{showArray, showStatus, showIdent, nextIdent, showSerial, nextSerial, fall}
 use Rattle.select.specs.Rise.{byCommand, opened, codeTaken, codeRise, upperTaken, upperRise, lowerTaken, lowerRise, dummyTaken, dummyRise}
 use Rattle.select.specs.Rise.{writeTaken, writeRise, keptBy, keepTaken, keepRise, rise}
 use Rattle.stages.specs.SoundLaws.{within, SoundTaken, take-sound, next-sound, after-code, after-address, DataTaken, data-sound}
-use Rattle.stages.specs.Sound.{soundShift, soundFall, soundStage}
+use Rattle.stages.specs.Sound.{soundShift, soundWp, soundFall, soundLast, soundStage}
 use Rattle.stages.specs.declared.stage.Came.{Came}
+use Rattle.stages.specs.declared.stage.Came.the-variants.{NoByte, NoByteLow, Bytes, BytesLow}
 use Rattle.stages.specs.declared.stage.End.the-variants.{Quiet}
 use Rattle.stages.specs.declared.stage.Line.{Line}
 use Rattle.stages.specs.declared.stage.Purpose.{Purpose}
@@ -74,9 +76,9 @@ module _ (f : Figure) (fair : Fair f) where
   dummy-masked seen at (Part more) = refl
   dummy-masked seen at (Whole byte) = refl
 
-  write-masked : (seen : Seen) (came : Came) (at : ℕ) (t : Taken) → writeTaken f seen came at t .kept ≡ seen .kept
-  write-masked seen came at (Part more) = refl
-  write-masked seen came at (Whole byte) = refl
+  write-masked : (seen : Seen) (came : Came) (last at : ℕ) (t : Taken) → writeTaken f seen came last at t .kept ≡ seen .kept
+  write-masked seen came last at (Part more) = refl
+  write-masked seen came last at (Whole byte) = refl
 
   keep-masked : (seen : Seen) (wp : Line) (t : Taken) → bitAnd (seen .kept) (f .kept) ≡ seen .kept
       → bitAnd (keepTaken f seen wp t .kept) (f .kept) ≡ keepTaken f seen wp t .kept
@@ -93,7 +95,7 @@ module _ (f : Figure) (fair : Fair f) where
   rise-masked seen (Ready what at) h = h
   rise-masked seen (ArrayOut level bit at) h = h
   rise-masked seen (StatusOut level bit) h = h
-  rise-masked seen (Writing came shift at) h = rw (write-masked seen (byteCame came shift (seen .wp)) at (takeBit shift (seen .si))) h
+  rise-masked seen (Writing came shift last at) h = rw (write-masked seen (byteCame came shift (seen .wp)) last at (takeBit shift (seen .si))) h
   rise-masked seen (Keeping wp shift) h = keep-masked seen (byteWp f wp shift (seen .wp)) (takeBit shift (seen .si)) h
   rise-masked seen (Over end) h = h
   rise-masked seen (Dummy shift at) h = rw (dummy-masked seen at (takeBit shift (seen .si))) h
@@ -138,11 +140,43 @@ module _ (f : Figure) (fair : Fair f) where
   dummy-sound seen at (Part more) p h = both p h
   dummy-sound seen at (Whole byte) p h = right (eqb (f .dummy) 1) _ p
 
-  write-sound : (seen : Seen) (came : Came) (at : ℕ) (t : Taken) → ltb at (f .size) ≡ true → DataTaken t
-      → soundStage f (writeTaken f seen came at t .stage) ≡ true
+  -- the byte stored last is one of the array
+  last-sound : (last at : ℕ) (v : verdict.Verdict) → ltb at (f .size) ≡ true → leb last (f .size) ≡ true → leb (lastBy last at v) (f .size) ≡ true
+  last-sound last at verdict.the-variants.Allowed p h =
+      let inside : at < f .size = ltb-true at (f .size) p in
+      rw (lt-ltb at 0xFFFFFFFF (omega (arith, inside, fair .short))) (le-leb (at + 1) (f .size) (omega (arith, inside)))
+  last-sound last at (verdict.the-variants.HeldBack reason) p h = h
+
+  either : (t : Bool) → (t || true) ≡ true
+  either true = refl
+  either false = refl
+
+  write-sound : (seen : Seen) (came : Came) (last at : ℕ) (t : Taken) → ltb at (f .size) ≡ true → soundLast f came last ≡ true → DataTaken t
+      → soundStage f (writeTaken f seen came last at t .stage) ≡ true
   unfolding soundStage
-  write-sound seen came at (Part more) p h = rw (p, h .0, h .1)
-  write-sound seen came at (Whole byte) p h = rw (lt-ltb _ _ (next-sound f fair at))
+  write-sound seen came last at (Part more) p l h = rw (p, h .0, h .1) l
+  write-sound seen came last at (Whole byte) p l h =
+      let v = mayStore f (seen .latch) (seen .kept) (cameUp came) at in
+      rw (lt-ltb _ _ (next-sound f fair at), last-sound last at v p (left (leb last (f .size)) _ l)) (either (eqb (lastBy last at v) 0))
+
+  -- whether a byte came stays within a byte
+  came-some : (came : Came) (wp : Bool) → someCame (cameWith came wp) ≡ someCame came
+  came-some NoByte true = refl
+  came-some NoByte false = refl
+  came-some NoByteLow true = refl
+  came-some NoByteLow false = refl
+  came-some Bytes true = refl
+  came-some Bytes false = refl
+  came-some BytesLow true = refl
+  came-some BytesLow false = refl
+
+  came-sound : (came : Came) (shift last : ℕ) (wp : Bool) → soundLast f came last ≡ true → soundLast f (byteCame came shift wp) last ≡ true
+  unfolding byteCame
+  came-sound came shift last wp h = go (eqb shift noBits)
+    where
+      go : (t : Bool) → soundLast f (cond t (cameWith came wp) came) last ≡ true
+      go true = rw (came-some came wp) h
+      go false = h
 
   kept-sound : (seen : Seen) (byte : ℕ) (v : verdict.Verdict) → soundStage f (keptBy f seen byte v .stage) ≡ true
   unfolding soundStage
@@ -166,10 +200,11 @@ module _ (f : Figure) (fair : Fair f) where
   rise-sound seen (Ready what at) h = h
   rise-sound seen (ArrayOut level bit at) h = h
   rise-sound seen (StatusOut level bit) h = h
-  rise-sound seen (Writing came shift at) h =
-      let sure = left (ltb at (f .size) && soundShift shift) _ h in
-      write-sound seen (byteCame came shift (seen .wp)) at (takeBit shift (seen .si)) (left _ _ sure)
-      (data-sound shift (seen .si) (right (ltb at (f .size)) _ sure))
+  rise-sound seen (Writing came shift last at) h =
+      let tests = ltb at (f .size) && soundShift shift && soundWp (cameUp came) shift in
+      let sure = left (ltb at (f .size) && soundShift shift) (soundWp (cameUp came) shift) (left tests (soundLast f came last) h) in
+      write-sound seen (byteCame came shift (seen .wp)) last at (takeBit shift (seen .si)) (left _ _ sure)
+      (came-sound came shift last (seen .wp) (right tests (soundLast f came last) h)) (data-sound shift (seen .si) (right (ltb at (f .size)) _ sure))
   rise-sound seen (Keeping wp shift) h =
       keep-sound seen (byteWp f wp shift (seen .wp)) (takeBit shift (seen .si)) (data-sound shift (seen .si) (left (soundShift shift) _ h))
   rise-sound seen (Over end) h = refl
@@ -203,7 +238,7 @@ module _ (f : Figure) (fair : Fair f) where
       go : (t : Bool) → soundStage f (cond t (Over Quiet) (showStatus status (bit - 1))) ≡ true
       go true = refl
       go false = lower-bit bit h
-  fall-sound serial xs status (Writing came shift at) h = h
+  fall-sound serial xs status (Writing came shift last at) h = h
   fall-sound serial xs status (Keeping wp shift) h = h
   fall-sound serial xs status (Over end) h = h
   fall-sound serial xs status (Dummy shift at) h = h

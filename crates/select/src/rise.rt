@@ -15,6 +15,7 @@ use stages::address::upper_page;
 use stages::bits::NO_BITS;
 use stages::bits::Taken;
 use stages::bits::take_bit;
+use stages::last::last_by;
 use stages::stage::Came;
 use stages::stage::End;
 use stages::stage::Line;
@@ -180,22 +181,32 @@ fn store_note(at: usize, byte: u8, verdict: Verdict) -> Note
     }
 }
 
-// A data byte of a WRITE: stored or held back at its eighth rise, and the address steps.
-fn write_rise(f: Figure, seen: Seen, came: Came, shift: u16, at: usize) -> Risen
-    ensures { λ r. ⌜ r ≡ writeRise f seen came shift at ⌝ }
+// A data byte of a WRITE: stored or held back at its eighth rise, and the address steps. The order of the calls is timed (docs/SPEED.md).
+fn write_rise(f: Figure, seen: Seen, came: Came, shift: u16, last: u32, at: usize) -> Risen
+    ensures { λ r. ⌜ r ≡ writeRise f seen came shift last at ⌝ }
 {
-    let came = byte_came(came, shift, seen.wp);
     let taken = take_bit(shift, seen.si);
+    let came = byte_came(came, shift, seen.wp);
     match taken {
-        Taken::Part(shift) => to_stage(seen, Stage::Writing { came, shift, at }),
+        Taken::Part(shift) => to_stage(
+            seen,
+            Stage::Writing {
+                came,
+                shift,
+                last,
+                at,
+            },
+        ),
         Taken::Whole(byte) => {
             let verdict = may_store(f, seen.latch, seen.kept, came_up(came), at);
-            let note = store_note(at, byte, verdict);
             let next = next_address(f, at);
+            let note = store_note(at, byte, verdict);
+            let last = last_by(last, at, verdict);
             Risen {
                 stage: Stage::Writing {
                     came: Came::Bytes,
                     shift: NO_BITS,
+                    last,
                     at: next,
                 },
                 latch: seen.latch,
@@ -259,7 +270,12 @@ pub fn rise(f: Figure, seen: Seen, stage: Stage) -> Risen
         Stage::StatusOut { .. } => to_stage(seen, stage),
         Stage::IdentOut { .. } => to_stage(seen, stage),
         Stage::SerialOut { .. } => to_stage(seen, stage),
-        Stage::Writing { came, shift, at } => write_rise(f, seen, came, shift, at),
+        Stage::Writing {
+            came,
+            shift,
+            last,
+            at,
+        } => write_rise(f, seen, came, shift, last, at),
         Stage::Keeping { wp, shift } => keep_rise(f, seen, wp, shift),
         Stage::Over { .. } => to_stage(seen, stage),
     }

@@ -30,7 +30,7 @@ afterCode f purpose code =
 unfoldable pub afterAddress : Figure → Purpose → ℕ → ℕ → Stage
 afterAddress f ToRead page byte = Ready Array (page * 256 + byte)
 afterAddress f ToReadFast page byte = cond (eqb (f .dummy) 1) (Dummy noBits (page * 256 + byte)) (Ready Array (page * 256 + byte))
-afterAddress f ToWrite page byte = Writing NoByte noBits (page * 256 + byte)
+afterAddress f ToWrite page byte = Writing NoByte noBits 0 (page * 256 + byte)
 
 -- "then the next address, rolling from the last to 0"
 unfoldable pub nextAddress : Figure → ℕ → ℕ

@@ -22,7 +22,7 @@ isClosed (ArrayOut level bit at) = false
 isClosed (StatusOut level bit) = false
 isClosed (IdentOut level bit at) = false
 isClosed (SerialOut level bit at) = false
-isClosed (Writing came shift at) = false
+isClosed (Writing came shift last at) = false
 isClosed (Keeping wp shift) = false
 isClosed (Over end) = false
 
@@ -39,7 +39,7 @@ isAsleep (ArrayOut level bit at) = false
 isAsleep (StatusOut level bit) = false
 isAsleep (IdentOut level bit at) = false
 isAsleep (SerialOut level bit at) = false
-isAsleep (Writing came shift at) = false
+isAsleep (Writing came shift last at) = false
 isAsleep (Keeping wp shift) = false
 isAsleep (Over end) = false
 
@@ -56,10 +56,10 @@ endOf (ArrayOut level bit at) = Quiet
 endOf (StatusOut level bit) = Quiet
 endOf (IdentOut level bit at) = Quiet
 endOf (SerialOut level bit at) = Quiet
-endOf (Writing NoByte shift at) = Quiet
-endOf (Writing NoByteLow shift at) = Quiet
-endOf (Writing Bytes shift at) = Drops
-endOf (Writing BytesLow shift at) = Drops
+endOf (Writing NoByte shift last at) = Quiet
+endOf (Writing NoByteLow shift last at) = Quiet
+endOf (Writing Bytes shift last at) = Drops
+endOf (Writing BytesLow shift last at) = Drops
 endOf (Keeping wp shift) = Quiet
 endOf (Over end) = end
 

@@ -4,3 +4,4 @@ pub mod Close
 pub mod Sound
 pub mod SoundLaws
 pub mod Wp
+pub mod Last

@@ -2,11 +2,12 @@
 -- byte or bit count that no number of clocks gives". Assumes nothing.
 use Prim.Native.Nat.{ℕ, _*_}
 use mathlib.Core.Bool.{Bool, true, _&&_, _||_}
-use lib.Dec.{eqb, ltb}
+use lib.Dec.{eqb, leb, ltb}
 use Rattle.parts.specs.Figures.{identBytes}
 use Rattle.parts.specs.declared.figures.Figure.{Figure}
 use Rattle.stages.specs.Bits.{noBits}
-use Rattle.stages.specs.Wp.{isUp, cameUp}
+use Rattle.stages.specs.Wp.{isUp, cameUp, someCame}
+use Rattle.stages.specs.declared.stage.Came.{Came}
 use Rattle.stages.specs.declared.stage.What.{What}
 use Rattle.stages.specs.declared.stage.What.the-variants.{Array, Status, Ident, Serial}
 use Rattle.stages.specs.declared.stage.Stage.{Stage}
@@ -31,6 +32,10 @@ shownLength f Status = 1
 shownLength f Ident = identBytes
 shownLength f Serial = f .serial
 
+-- the byte stored last has an address of the array, and one form where no byte came: none
+abbrev pub soundLast : Figure → Came → ℕ → Bool
+soundLast f came last = leb last (f .size) && (eqb last 0 || someCame came)
+
 -- an upper address byte comes only where the part has two, a dummy byte only where it has one
 unfoldable pub soundStage : Figure → Stage → Bool
 soundStage f Closed = true
@@ -44,6 +49,6 @@ soundStage f (ArrayOut level bit at) = ltb at (f .size) && ltb bit 8
 soundStage f (StatusOut level bit) = ltb bit 8
 soundStage f (IdentOut level bit at) = ltb at identBytes && ltb bit 8
 soundStage f (SerialOut level bit at) = ltb at (f .serial) && ltb bit 8
-soundStage f (Writing came shift at) = ltb at (f .size) && soundShift shift && soundWp (cameUp came) shift
+soundStage f (Writing came shift last at) = ltb at (f .size) && soundShift shift && soundWp (cameUp came) shift && soundLast f came last
 soundStage f (Keeping wp shift) = soundShift shift && (ltb noBits shift || soundFall f (isUp wp))
 soundStage f (Over end) = true

@@ -4,7 +4,7 @@ use mathlib.Core.Path.{_≡_, refl}
 use mathlib.Core.Bool.{Bool, true, false, cond}
 use native.Mathlib.Nat.{mod-eq-of-lt, mod-lt}
 use native.Mathlib.Omega.{arith}
-use borrow.Author.Tests.{lt-ltb, ltb-true, leb-false}
+use borrow.Author.Tests.{lt-ltb, le-leb, ltb-true, leb-false}
 use lib.Bits.{bitAnd, or-shifted}
 use lib.Dec.{eqb, leb, ltb, lit<}
 use Rattle.parts.specs.FigureLaws.{Fair}
@@ -114,4 +114,4 @@ module _ (f : Figure) (fair : Fair f) where
       go : (t : Bool) → eqb (f .dummy) 1 ≡ t → soundStage f (cond t (Dummy noBits (page * 256 + byte)) (Ready Array (page * 256 + byte))) ≡ true
       go true e = rw (e, lt-ltb _ _ (paged page p h))
       go false e = lt-ltb _ _ (paged page p h)
-  after-address ToWrite page p h = rw (lt-ltb _ _ (paged page p h))
+  after-address ToWrite page p h = rw (lt-ltb _ _ (paged page p h), le-leb 0 (f .size) zero-le)

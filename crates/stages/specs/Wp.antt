@@ -18,13 +18,21 @@ abbrev pub isUp : Line → Bool
 isUp Down = false
 isUp Up = true
 
--- the level that a WRITE's stage remembers with what came, and what came with another level
+-- the level that a WRITE's stage remembers with what came
 abbrev pub cameUp : Came → Bool
 cameUp NoByte = true
 cameUp NoByteLow = false
 cameUp Bytes = true
 cameUp BytesLow = false
 
+-- whether a whole byte came
+abbrev pub someCame : Came → Bool
+someCame NoByte = false
+someCame NoByteLow = false
+someCame Bytes = true
+someCame BytesLow = true
+
+-- what came, with another level
 abbrev pub cameWith : Came → Bool → Came
 cameWith NoByte wp = cond wp NoByte NoByteLow
 cameWith NoByteLow wp = cond wp NoByte NoByteLow

@@ -67,6 +67,7 @@ pub fn addressed(f: Figure, purpose: Purpose, page: u32, byte: u8) -> Stage
         Purpose::ToWrite => Stage::Writing {
             came: Came::NoByte,
             shift: NO_BITS,
+            last: 0,
             at,
         },
     }

@@ -2,6 +2,7 @@
 pub mod address;
 pub mod bits;
 pub mod close;
+pub mod last;
 pub mod sound;
 pub mod stage;
 pub mod wp;

@@ -1,11 +1,13 @@
 // The part of the soundness test that looks at the stage.
 ghost use mathlib.Core.Path.{_≡_};
-ghost use Rattle.stages.specs.Sound.{soundShift, shownLength, soundStage};
+ghost use Rattle.stages.specs.Sound.{soundShift, shownLength, soundLast, soundStage};
 use crate::bits::NO_BITS;
+use crate::stage::Came;
 use crate::stage::Stage;
 use crate::stage::What;
 use crate::wp::came_up;
 use crate::wp::is_up;
+use crate::wp::some_came;
 use parts::figures::Figure;
 use parts::figures::IDENT;
 
@@ -28,6 +30,13 @@ fn shown_length(f: Figure, what: What) -> usize
     }
 }
 
+// The byte stored last is one of the array, and there is none where no byte came.
+fn sound_last(f: Figure, came: Came, last: u32) -> bool
+    ensures { λ r. ⌜ r ≡ soundLast f came last ⌝ }
+{
+    ((last as usize) <= f.size) & ((last == 0) | some_came(came))
+}
+
 // Whether the stage is sound on this part. A data byte's level of /WP is up where no bit of it came.
 pub fn sound_stage(f: Figure, stage: Stage) -> bool
     ensures { λ r. ⌜ r ≡ soundStage f stage ⌝ }
@@ -44,9 +53,15 @@ pub fn sound_stage(f: Figure, stage: Stage) -> bool
         Stage::StatusOut { bit, .. } => bit < 8,
         Stage::IdentOut { bit, at, .. } => (at < IDENT) & (bit < 8),
         Stage::SerialOut { bit, at, .. } => (at < f.serial) & (bit < 8),
-        Stage::Writing { came, shift, at } => (at < f.size)
+        Stage::Writing {
+            came,
+            shift,
+            last,
+            at,
+        } => (at < f.size)
             & sound_shift(shift)
-            & ((NO_BITS < shift) | came_up(came)),
+            & ((NO_BITS < shift) | came_up(came))
+            & sound_last(f, came, last),
         Stage::Keeping { wp, shift } => sound_shift(shift)
             & ((NO_BITS < shift) | (f.wp_at_fall | is_up(wp))),
         Stage::Over { .. } => true,

@@ -83,9 +83,11 @@ pub enum Stage {
         wp: Line,
         shift: u16,
     },
+    // `last` is the byte that the select stored last (specs/Last.antt): its address and one, 0 for none.
     Writing {
         came: Came,
         shift: u16,
+        last: u32,
         at: usize,
     },
     // Bit number `bit` of a byte stands on SO, at the level that it had at its fall.

@@ -1,6 +1,6 @@
 // /WP and the data byte under way (document 02, Wishes 2 and 3).
 ghost use mathlib.Core.Path.{_≡_};
-ghost use Rattle.stages.specs.Wp.{isUp, cameUp, cameWith, fallWp, byteWp, byteCame};
+ghost use Rattle.stages.specs.Wp.{isUp, cameUp, someCame, cameWith, fallWp, byteWp, byteCame};
 use crate::bits::NO_BITS;
 use crate::stage::Came;
 use crate::stage::Line;
@@ -25,6 +25,18 @@ pub fn came_up(came: Came) -> bool
         Came::NoByteLow => false,
         Came::Bytes => true,
         Came::BytesLow => false,
+    }
+}
+
+// Whether a whole byte came.
+pub fn some_came(came: Came) -> bool
+    ensures { λ r. ⌜ r ≡ someCame came ⌝ }
+{
+    match came {
+        Came::NoByte => false,
+        Came::NoByteLow => false,
+        Came::Bytes => true,
+        Came::BytesLow => true,
     }
 }
 

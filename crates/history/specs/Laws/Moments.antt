@@ -54,7 +54,7 @@ unknown-stays l code e = rw e
 unknown-passes : (l : Wire) (code : ℕ) → leb 12 code ≡ true → act l code ≡ passes
 unfolding act
 unknown-passes l code e =
-    rw (other 10 (omega arith), other 0 (omega arith), other 1 (omega arith), other 3 (omega arith)) (either-way (not (l .power)) passes)
+    rw (other 10 (omega arith), other 0 (omega arith), other 1 (omega arith), other 3 (omega arith), other 2 (omega arith)) (either-way (not (l .power)) passes)
   where
     large : 12 ≤ code
     large = leb-true 12 code e
@@ -70,7 +70,7 @@ pub record Moment (part : ℕ) (l : Wire) (p : Place) (w : World) (c : Chip) : T
   pub takes : fitsSerial part (length (c .serial)) ≡ true
 
 -- the chip is the part's
-own-part : {part : ℕ} {l : Wire} {p : Place} {w : World} {c : Chip} → Agrees part l p w c → c .state .part ≡ part
+pub own-part : {part : ℕ} {l : Wire} {p : Place} {w : World} {c : Chip} → Agrees part l p w c → c .state .part ≡ part
 own-part (off own kept array) = refl
 own-part (on own p w v sck si wp hold stage s) = refl
 
@@ -154,18 +154,23 @@ reached part fair {l} {p} {w} {c} m (code ∷ codes) =
     }
 
 -- from power-up on
-pub reached-from :
+pub started :
     (part kept : ℕ) (array own : List ℕ) → isPart part ≡ true → inMask part kept ≡ true → length array ≡ figureOf part .size
     → fitsSerial part (length own) ≡ true
-    → (codes : List ℕ) → Reached part (rest true) (outside false) (unlatched kept array) (poweredUp part kept array own) codes
-reached-from part kept array own one under fits takes =
-    reached part (fair part one)
-    (record {
+    → Moment part (rest true) (outside false) (unlatched kept array) (poweredUp part kept array own)
+started part kept array own one under fits takes =
+    record {
       agrees = on own (outside false) (unlatched kept array) (unlatched kept array) false Down Up High Closed (closed false);
       good = rest-sound part kept true one under;
       fits = fits;
       takes = takes;
-    })
+    }
+
+pub reached-from :
+    (part kept : ℕ) (array own : List ℕ) → isPart part ≡ true → inMask part kept ≡ true → length array ≡ figureOf part .size
+    → fitsSerial part (length own) ≡ true
+    → (codes : List ℕ) → Reached part (rest true) (outside false) (unlatched kept array) (poweredUp part kept array own) codes
+reached-from part kept array own one under fits takes = reached part (fair part one) (started part kept array own one under fits takes)
 
 pub world-told :
     (part kept : ℕ) (array own codes : List ℕ) → Reached part (rest true) (outside false) (unlatched kept array) (poweredUp part kept array own) codes

@@ -10,7 +10,7 @@ use borrow.Author.Tests.{leb-false, eqb-true, eqb-false}
 use Rattle.parts.specs.FigureLaws.{Fair}
 use Rattle.parts.specs.Figures.{figureOf}
 use Rattle.stages.specs.Close.{drops}
-use Rattle.select.specs.Fall.{statusByte}
+use Rattle.select.specs.Fall.{fall, statusByte}
 use Rattle.select.specs.Rise.{rise}
 use Rattle.select.specs.declared.notes.Note.the-variants.{Latch}
 use Rattle.stages.specs.Wp.{isUp}
@@ -118,8 +118,8 @@ module _ (part : ℕ) (fair : Fair (figureOf part)) where
     cs-low sck High (outside _) _ _ (closed asleep) =
         rw (select-open (figureOf part) w (closed asleep))
         (on own (inside asleep (isUp wp) []) w w sck si wp High _ (select-fresh (figureOf part) w asleep (isUp wp)))
-    cs-low sck High (inside woken fell bs) v stage s =
-        rw (select-open (figureOf part) w s) (on own (inside woken fell bs) w v sck si wp High stage s)
+    cs-low sck High (inside woken fell es) v stage s =
+        rw (select-open (figureOf part) w s) (on own (inside woken fell es) w v sck si wp High stage s)
     cs-low sck LowCsLow p v stage s = on own p w v sck si wp LowCsLow stage s
     cs-low sck LowCsHigh p v stage s = on own p w v sck si wp LowCsLow stage s
 
@@ -147,16 +147,18 @@ module _ (part : ℕ) (fair : Fair (figureOf part)) where
     unfolding afterOne refusal put act placeAfter base step live csRise written
     cs-high sck High (outside asleep) v stage s =
         rw (select-open (figureOf part) w s) (on own (outside asleep) w v sck si wp High stage s)
-    cs-high sck High (inside woken fell bs) v stage s =
+    cs-high sck High (inside woken fell es) v stage s =
         rw (select-open (figureOf part) w s, ← select-close (figureOf part) w s, select-shut (figureOf part) w s)
-        (closing (asleepAfter (figureOf part) woken fell bs) sck (v .latch) (drops stage) (v .kept) (v .array))
+        (closing (asleepAfter (figureOf part) woken fell es) sck (v .latch) (drops stage) (v .kept) (v .array))
     cs-high sck LowCsLow p v stage s = on own p w v sck si wp LowCsHigh stage s
     cs-high sck LowCsHigh p v stage s = on own p w v sck si wp LowCsHigh stage s
 
     sck-low : After 2
-    unfolding afterOne refusal put act placeAfter base step live sckFall written
-    sck-low true High p v stage s =
-        on own p w v false si wp High _ (select-fall (figureOf part) w own (v .array) (statusByte (figureOf part) (v .kept) (v .latch)) s)
+    unfolding afterOne refusal put act placeAfter base step live sckFall fall written
+    sck-low true High (outside true) _ _ (closed true) = on own (outside true) w w false si wp High Asleep (closed true)
+    sck-low true High (outside false) _ _ (closed false) = on own (outside false) w w false si wp High Closed (closed false)
+    sck-low true High (inside woken fell es) v stage s =
+        on own _ w v false si wp High _ (select-fall (figureOf part) fair w own (v .array) (statusByte (figureOf part) (v .kept) (v .latch)) s)
     sck-low true LowCsLow p v stage s = on own p w v false si wp LowCsLow stage s
     sck-low true LowCsHigh p v stage s = on own p w v false si wp LowCsHigh stage s
     sck-low false hold p v stage s = on own p w v false si wp hold stage s
@@ -165,7 +167,7 @@ module _ (part : ℕ) (fair : Fair (figureOf part)) where
     unfolding afterOne refusal put act placeAfter base step live sckRise rise written
     sck-high false High (outside true) _ _ (closed true) = on own (outside true) w w true si wp High Asleep (closed true)
     sck-high false High (outside false) _ _ (closed false) = on own (outside false) w w true si wp High Closed (closed false)
-    sck-high false High (inside woken fell bs) v stage s =
+    sck-high false High (inside woken fell es) v stage s =
         on own _ w _ true si wp High _ (select-rise (figureOf part) fair w (record { si = isUp si; wp = isUp wp }) s)
     sck-high false LowCsLow p v stage s = on own p w v true si wp LowCsLow stage s
     sck-high false LowCsHigh p v stage s = on own p w v true si wp LowCsHigh stage s
@@ -176,8 +178,8 @@ module _ (part : ℕ) (fair : Fair (figureOf part)) where
     hold-low true High p v stage s = on own p w v true si wp High stage s
     hold-low false High (outside asleep) v stage s =
         rw (select-open (figureOf part) w s) (on own (outside asleep) w v false si wp LowCsHigh stage s)
-    hold-low false High (inside woken fell bs) v stage s =
-        rw (select-open (figureOf part) w s) (on own (inside woken fell bs) w v false si wp LowCsLow stage s)
+    hold-low false High (inside woken fell es) v stage s =
+        rw (select-open (figureOf part) w s) (on own (inside woken fell es) w v false si wp LowCsLow stage s)
     hold-low sck LowCsLow p v stage s = on own p w v sck si wp LowCsLow stage s
     hold-low sck LowCsHigh p v stage s = on own p w v sck si wp LowCsHigh stage s
 
@@ -190,10 +192,10 @@ module _ (part : ℕ) (fair : Fair (figureOf part)) where
         rw (select-open (figureOf part) w s) (on own (outside asleep) w v false si wp LowCsLow stage s)
     hold-high false LowCsHigh (outside asleep) v stage s =
         rw (select-open (figureOf part) w s) (on own (outside asleep) w v false si wp High stage s)
-    hold-high false LowCsLow (inside woken fell bs) v stage s =
-        rw (select-open (figureOf part) w s) (on own (inside woken fell bs) w v false si wp High stage s)
-    hold-high false LowCsHigh (inside woken fell bs) v stage s =
-        rw (select-open (figureOf part) w s) (on own (inside woken fell bs) w v false si wp LowCsHigh stage s)
+    hold-high false LowCsLow (inside woken fell es) v stage s =
+        rw (select-open (figureOf part) w s) (on own (inside woken fell es) w v false si wp High stage s)
+    hold-high false LowCsHigh (inside woken fell es) v stage s =
+        rw (select-open (figureOf part) w s) (on own (inside woken fell es) w v false si wp LowCsHigh stage s)
 
     any-pin : (code : ℕ) → leb 12 code ≡ false → After code
     unfolding afterOne refusal put act placeAfter base step live written
@@ -252,8 +254,8 @@ module _ (part : ℕ) where
   rise-alike own si wp true LowCsHigh s = refl
   rise-alike own {p = outside asleep} {w = w} si wp false LowCsLow s = rw (select-open (figureOf part) w s)
   rise-alike own {p = outside asleep} {w = w} si wp false LowCsHigh s = rw (select-open (figureOf part) w s)
-  rise-alike own {p = inside woken fell bs} {w = w} si wp false LowCsLow s = rw (select-open (figureOf part) w s)
-  rise-alike own {p = inside woken fell bs} {w = w} si wp false LowCsHigh s = rw (select-open (figureOf part) w s)
+  rise-alike own {p = inside woken fell es} {w = w} si wp false LowCsLow s = rw (select-open (figureOf part) w s)
+  rise-alike own {p = inside woken fell es} {w = w} si wp false LowCsHigh s = rw (select-open (figureOf part) w s)
 
   pub refuses : {l : Wire} {p : Place} {w : World} {c : Chip} (code : ℕ) → leb 12 code ≡ false → Agrees part l p w c → Refuses l c code
   unfolding refusal step live

@@ -7,7 +7,7 @@ use lib.Dec.{eqb}
 use lib.ListN.{replicate}
 use Rattle.stages.specs.declared.stage.Stage.{Stage}
 use Rattle.stages.specs.declared.stage.Stage.the-variants.{Asleep, Code, Upper, Lower, Dummy, Ready, ArrayOut, StatusOut, IdentOut, SerialOut, Writing, Keeping}
-use Rattle.stages.specs.declared.stage.Came.the-variants.{NoByte, NoByteLow, Bytes}
+use Rattle.stages.specs.declared.stage.Came.the-variants.{NoByte, NoByteLow, Bytes, BytesLow}
 use Rattle.stages.specs.declared.stage.Line.the-variants.{Down, Up}
 use Rattle.stages.specs.declared.stage.Purpose.the-variants.{ToRead, ToWrite}
 use Rattle.stages.specs.declared.stage.What.the-variants.{Array, Status, Ident, Serial}
@@ -81,18 +81,21 @@ refusedEvents =
     ∷ refuses (withStage (atRest 1 0 false) false (Code Up noBits)) 512 0 4
     ∷ refuses (withStage (atRest 1 0 false) true (atRest 1 0 false .stage)) 512 0 4
     -- "an address not below the part's size"
-    ∷ refuses (in1 (Writing NoByte noBits 512)) 512 11 4 ∷ refuses (in1 (Writing NoByte noBits 511)) 512 11 0
-    ∷ refuses (in3 (Writing Bytes noBits 2048)) 2048 11 4 ∷ refuses (in3 (Writing Bytes noBits 2047)) 2048 11 0
+    ∷ refuses (in1 (Writing NoByte noBits 0 512)) 512 11 4 ∷ refuses (in1 (Writing NoByte noBits 0 511)) 512 11 0
+    ∷ refuses (in3 (Writing Bytes noBits 0 2048)) 2048 11 4 ∷ refuses (in3 (Writing Bytes noBits 0 2047)) 2048 11 0
+    ∷ refuses (in3 (Writing Bytes noBits 2049 0)) 2048 11 4 ∷ refuses (in3 (Writing Bytes noBits 2048 0)) 2048 11 0
+    ∷ refuses (in3 (Writing NoByte noBits 1 0)) 2048 11 4 ∷ refuses (in3 (Writing BytesLow 2 1 0)) 2048 11 0
+    ∷ refuses (in3 (Writing NoByteLow 2 1 0)) 2048 11 4
     ∷ refuses (in3 (Ready Array 2048)) 2048 11 4 ∷ refuses (in3 (Ready Array 2047)) 2048 11 0
     ∷ refuses (in1 (ArrayOut Down 0 512)) 512 11 4 ∷ refuses (in1 (Ready Status 1)) 512 11 4
     ∷ refuses (in1 (Lower ToWrite noBits 2)) 512 11 4 ∷ refuses (in1 (Lower ToWrite noBits 1)) 512 11 0
     ∷ refuses (in3 (Lower ToRead noBits 8)) 2048 11 4 ∷ refuses (in3 (Lower ToRead noBits 7)) 2048 11 0
     -- the level of /WP that a data byte began with: up before its first bit, free from then on
-    ∷ refuses (in1 (Writing NoByteLow noBits 0)) 512 11 4 ∷ refuses (in1 (Writing NoByteLow 2 0)) 512 11 0
+    ∷ refuses (in1 (Writing NoByteLow noBits 0 0)) 512 11 4 ∷ refuses (in1 (Writing NoByteLow 2 0 0)) 512 11 0
     ∷ refuses (in3 (Keeping Down noBits)) 2048 11 4 ∷ refuses (in3 (Keeping Down 3)) 2048 11 0
     -- "a partial byte or bit count that no number of clocks gives"
     ∷ refuses (in1 (Code Up 0)) 512 11 4 ∷ refuses (in1 (Code Up 255)) 512 11 0 ∷ refuses (in1 (Code Up 256)) 512 11 4
-    ∷ refuses (in1 (Keeping Up 0)) 512 11 4 ∷ refuses (in1 (Keeping Up 256)) 512 11 4 ∷ refuses (in1 (Writing NoByte 256 0)) 512 11 4
+    ∷ refuses (in1 (Keeping Up 0)) 512 11 4 ∷ refuses (in1 (Keeping Up 256)) 512 11 4 ∷ refuses (in1 (Writing NoByte 256 0 0)) 512 11 4
     ∷ refuses (in1 (Lower ToRead 256 0)) 512 11 4 ∷ refuses (in3 (Upper ToRead 256)) 2048 11 4 ∷ refuses (in3 (Upper ToRead 255)) 2048 11 0
     ∷ refuses (in1 (Upper ToWrite noBits)) 512 11 4 ∷ refuses (in1 (ArrayOut Down 8 0)) 512 11 4 ∷ refuses (in1 (StatusOut Down 8)) 512 11 4
     -- part 4: its length; it sleeps with power on only; a dummy byte where the part has FSTRD, with an address of its own; nine device

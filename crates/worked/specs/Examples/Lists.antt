@@ -83,8 +83,8 @@ listings =
     -- answer places stay": 6 with SCK high is refused, its own place stays, and 2 is not reached
     listing up (0 ∷ 3 ∷ 6 ∷ 2 ∷ []) (9 ∷ 9 ∷ 9 ∷ 9 ∷ 9 ∷ []) 6 2 (withStage risen false (Code Up 2)) (2 ∷ 2 ∷ 9 ∷ 9 ∷ 9 ∷ []) 0
     -- .. "and memory": the byte 55h was whole at its eighth rise, before the 12
-    ∷ listing (withStage up true (Writing NoByte 0xAA 0)) (5 ∷ 3 ∷ 12 ∷ 2 ∷ []) (9 ∷ 9 ∷ 9 ∷ 9 ∷ []) 5 2
-    (withStage (withSi risen true) true (Writing Bytes noBits 1)) (2 ∷ 2 ∷ 9 ∷ 9 ∷ []) 0x55
+    ∷ listing (withStage up true (Writing NoByte 0xAA 0 0)) (5 ∷ 3 ∷ 12 ∷ 2 ∷ []) (9 ∷ 9 ∷ 9 ∷ 9 ∷ []) 5 2
+    (withStage (withSi risen true) true (Writing Bytes noBits 1 1)) (2 ∷ 2 ∷ 9 ∷ 9 ∷ []) 0x55
     -- "one SO level per event (0, 1, or 2 for released)": after the event, and bit 6 of 00 at the fall; the close releases SO
     ∷ listing (withStage up false (ArrayOut Up 7 0)) (4 ∷ 3 ∷ 2 ∷ 1 ∷ []) (9 ∷ 9 ∷ 9 ∷ 9 ∷ []) 0 4 up (1 ∷ 1 ∷ 0 ∷ 2 ∷ []) 0
     -- spare places stay

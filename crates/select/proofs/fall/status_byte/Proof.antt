@@ -1,5 +1,4 @@
 -- The latch sets bit 1.
-use borrow.Author.Needs.{needs}
 use Rattle.select.proofs.fall.status_byte.Statement.{statement}
 use Rattle.select.proofs.fall.status_byte.Tie as tie
 
@@ -7,4 +6,4 @@ returns : tie.Need-returns
 returns c = simp (c .before .if1 .taken)
 
 pub status-byte-spec : {M : Type 1} → statement M
-status-byte-spec = tie.close (tie.spec returns (λ c. search needs))
+status-byte-spec = tie.close (tie.spec returns (λ c. simp (c .if1 .left)))

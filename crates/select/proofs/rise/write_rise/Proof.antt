@@ -8,18 +8,18 @@ returns : tie.Need-returns
 unfolding writeRise
 returns c =
     let t = c .before .before .before .before in
-    simp (c .to-stage .ensures, ← t .take-bit .ensures, ← t .before .byte-came .ensures, c .before .before .taken .given .1)
+    simp (c .to-stage .ensures, ← t .byte-came .ensures, ← t .before .take-bit .ensures, c .before .before .taken .given .1)
 
 returns-2 : tie.Need-returns-2
 unfolding writeRise
 returns-2 c =
-    let b = c .before .before in
+    let b = c .before .before .before in
     let t = b .before .before .before in
-    simp (c .next-address .ensures, c .before .store-note .ensures, b .may-store .ensures, b .before .came-up .ensures, ← t .before .before .take-bit .ensures, ← t .before .before .before .byte-came .ensures, t .taken2 .given .1)
+    simp (c .last-by .ensures, c .before .store-note .ensures, c .before .before .next-address .ensures, b .may-store .ensures, b .before .came-up .ensures, ← t .before .before .byte-came .ensures, ← t .before .before .before .take-bit .ensures, t .taken2 .given .1)
 
 pub write-rise-spec : {M : Type 1} → statement M
 write-rise-spec =
     tie.close
     (tie.spec
     (λ c κs. search needs) (λ c κs. search needs) (λ c. search needs) (λ c κs. search needs) (λ c. search needs)
-    (λ c κs. search needs) (λ c κs. search needs) (λ c κs. search needs) (λ c κs. search needs) returns returns-2)
+    (λ c κs. search needs) (λ c κs. search needs) (λ c κs. search needs) (λ c κs. search needs) (λ c κs. search needs) returns returns-2)

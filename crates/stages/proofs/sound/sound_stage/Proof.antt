@@ -50,7 +50,8 @@ returns-11 c = simp (c .before .before .stage9 .given .1)
 
 returns-12 : tie.Need-returns-12
 unfolding soundStage
-returns-12 c = simp (c .came-up .ensures, c .before .sound-shift5 .ensures, c .before .before .before .before .stage10 .given .1)
+returns-12 c =
+    simp (c .sound-last .ensures, c .before .came-up .ensures, c .before .before .sound-shift5 .ensures, c .before .before .before .before .before .stage10 .given .1)
 
 returns-13 : tie.Need-returns-13
 unfolding soundStage
@@ -68,6 +69,6 @@ sound-stage-spec =
     (λ c. search needs) (λ c κs. search needs) (λ c. search needs) (λ c. search needs) (λ c. search needs)
     (λ c κs. search needs) (λ c. search needs) (λ c κs. search needs) (λ c. search needs) (λ c κs. search needs)
     (λ c. search needs) (λ c. search needs) (λ c. search needs) (λ c. search needs) (λ c. search needs)
-    (λ c κs. search needs) (λ c κs. search needs) (λ c. search needs) (λ c κs. search needs) (λ c κs. search needs)
+    (λ c κs. search needs) (λ c κs. search needs) (λ c κs. search needs) (λ c. search needs) (λ c κs. search needs) (λ c κs. search needs)
     (λ c. search needs) returns returns-2 returns-3 returns-4 returns-5 returns-6 returns-7 returns-8 returns-9
     returns-10 returns-11 returns-12 returns-13 returns-14)
