@@ -1,0 +1,5 @@
+pub mod Count
+pub mod Promises
+pub mod Run
+pub mod CountLaws
+pub mod Examples

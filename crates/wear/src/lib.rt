@@ -1,0 +1,2 @@
+// Counting row cycles (document 02, Wish 9).
+pub mod count;
