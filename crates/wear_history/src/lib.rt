@@ -1,0 +1,1 @@
+// No code: the counters are the history's rows added up.
