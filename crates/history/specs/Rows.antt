@@ -10,7 +10,7 @@ use Rattle.parts.specs.declared.figures.Figure.{Figure}
 use Rattle.parts.specs.declared.guards.Verdict.{Verdict}
 use Rattle.parts.specs.declared.guards.Verdict.the-variants.{Allowed, HeldBack}
 use Rattle.history.specs.Wire.{rest, acts}
-use Rattle.history.specs.Transfers.{Edge, up, down, Transfer, Span, transfer, cut, spans}
+use Rattle.history.specs.Transfers.{Edge, up, down, Span, transfer, cut, spans}
 use Rattle.history.specs.Bytes.{Byte, Reading, latches, stores, shows, keeps, sleeps, idles}
 use Rattle.history.specs.History.{World, overlaid, reading, spanned, obeyed}
 

@@ -50,7 +50,7 @@ stay {counters = counters} size x = go (eqb x 0) refl
     go true e = adds-none counters size x x (eqb-true x 0 e)
     go false e = adds-same counters size x x (eqb-false x 0 e) (rw (e, eq-eqb ((x - 1) / size) ((x - 1) / size) refl))
 
-adds-length : (rows counters : List ℕ) → length (addAll counters rows) ≡ length counters
+pub adds-length : (rows counters : List ℕ) → length (addAll counters rows) ≡ length counters
 unfolding addAll
 adds-length [] counters = refl
 adds-length (row ∷ rows) counters = adds-length rows (addOne counters row) ∙ length-set counters row _

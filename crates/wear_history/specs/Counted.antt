@@ -1,7 +1,7 @@
 -- Row cycles (document 02, Wish 9): the counters are the history's rows added up, and their sum is the history's count. What it says is in
 -- the history's Rows, which reads the list of events alone, and in wear's Count and Run. Assumes nothing.
 use Prim.Native.Nat.{ℕ, _<_}
-use mathlib.Core.Bool.{true, false}
+use mathlib.Core.Bool.{true}
 use mathlib.Core.List.{List}
 use mathlib.Core.Path.{_≡_, refl, sym, ap, _∙_}
 use lib.ListN.{length}

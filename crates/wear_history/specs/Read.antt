@@ -3,8 +3,8 @@
 use Prim.Native.Nat.{ℕ, _+_, _*_, _-_, _/_, _<_, _≤_}
 use native.Mathlib.Omega.{arith}
 use mathlib.Core.Bool.{Bool, true, false, _||_}
-use mathlib.Core.List.{List, [], _∷_, _++_, map}
-use mathlib.Core.Path.{_≡_, refl, sym, ap, _∙_}
+use mathlib.Core.List.{List, [], _∷_, map}
+use mathlib.Core.Path.{_≡_, refl, sym, ap, subst, _∙_}
 use lib.Dec.{eqb}
 use lib.ListN.{length, length-replicate, replicate}
 use borrow.Author.Tests.{eq-eqb}
@@ -13,15 +13,19 @@ use Rattle.parts.specs.Figures.{figureOf, fitsSerial, inMask, isPart}
 use Rattle.parts.specs.declared.figures.Figure.{Figure}
 use Rattle.stages.specs.Last.{lastOf}
 use Rattle.stages.specs.Sound.{soundStage}
+use Rattle.stages.specs.Wp.{isUp}
 use Rattle.stages.specs.declared.stage.Line.{Line}
 use Rattle.stages.specs.declared.stage.Stage.the-variants.{Closed}
 use Rattle.pins.specs.Sound.{sound}
+use Rattle.pins.specs.Levels.{holdHigh, csFrom, csLevel}
 use Rattle.pins.specs.declared.hold.Hold.{Hold}
+use Rattle.pins.specs.declared.hold.Hold.the-variants.{High, LowCsLow, LowCsHigh}
 use Rattle.pins.specs.declared.state.State.{State}
 use Rattle.chip.specs.Run.{Chip, next}
 use Rattle.wear.specs.Count.{cycled, addAll, rowCount, counted, countersAfter}
+use Rattle.wear.specs.CountLaws.{adds-length}
 use Rattle.wear.specs.Run.{Worn, countOne}
-use Rattle.history.specs.Wire.{Wire, Act, afterOne, act, acts}
+use Rattle.history.specs.Wire.{Wire, afterOne, act, acts}
 use Rattle.history.specs.Transfers.{Transfer, transfer, spans}
 use Rattle.history.specs.Bytes.{shows}
 use Rattle.history.specs.History.{World, reading}
@@ -30,11 +34,11 @@ use Rattle.history.specs.Laws.Moments.{Moment, moment-next}
 use Rattle.history.specs.Laws.Place.{Place, outside, placeAfter, base}
 use Rattle.history.specs.Laws.Select.{closed}
 use Rattle.history.specs.Laws.Step.{on, wireOf, chipOf}
-use Rattle.history.specs.Laws.Worn.{AllBelow, touchedAt, rowsAt, rowsFrom, rows-now, finished, rows-next, places-below}
+use Rattle.history.specs.Laws.Worn.{touchedAt, rowsAt, rowsFrom, rows-now, finished, rows-next, places-below}
 use Rattle.wear_history.specs.Formula.{formula}
-use Rattle.wear_history.specs.Laws.Counters.{sum-all, add-append, add-length}
+use Rattle.wear_history.specs.Laws.Counters.{sum-all, add-append}
 use Rattle.wear_history.specs.Totals.{sum, NoneFull}
-use Rattle.wear_history.specs.Laws.Lent.{Reads, soon, lent, over, rowsRead, reads-rows, reads-next, moment-lent, rows-lent}
+use Rattle.wear_history.specs.Laws.Lent.{Reads, soon, lent, over, reads-rows, reads-next, moment-lent, rows-lent}
 use Rattle.wear_history.specs.Laws.Moments.{one-counted, turned-rows}
 use Rattle.wear_history.specs.Sum.{count-of, cycles-below}
 
@@ -76,13 +80,22 @@ module _ (part : ℕ) (fine : Fair (figureOf part)) (some : 0 < figureOf part .r
       let n = moment-next part fine q (call .code) in
       let more = cycled (f .row) (lastOf (d .state .stage)) (lastOf (next d (call .code) .state .stage)) in
       ap (λ (v : Worn). countOver (v .chip .state) (v .counters) calls) (one-counted part fine some q counters (call .code) sized)
-      ∙ over-counts n (addAll before (finished f u p a)) (addAll counters more) (add-length counters more ∙ sized)
+      ∙ over-counts n (addAll before (finished f u p a)) (addAll counters more) (adds-length more counters ∙ sized)
       (ap (λ (cs : List ℕ). addAll cs more) (told ∙ ap (addAll before) (sym (rows-lent k m (call .array))))
       ∙ sym (add-append before (rowsAt f u p) more) ∙ ap (addAll before) (sym (turned-rows part fine some q (call .code) n))
       ∙ add-append before (finished f u p a) (rowsAt f (base f u p a) (placeAfter f p a)))
       calls (fits .1) (reads-next f a later k)
       ∙ sym (add-append before (finished f u p a) (rowsFrom f (base f u p a) (placeAfter f p a) later))
       ∙ ap (addAll before) (sym (rows-next f u p a later) ∙ reads-rows f u k ∙ sym (reads-rows f w k))
+
+-- the lines of a state with no select open, as the history has them
+lines-are :
+    (sck : Bool) (si wp : Line) (hold : Hold)
+    → wireOf sck si wp hold true
+    ≡ record { power = true; cs = csFrom hold Closed; sck = sck; si = isUp si; hold = holdHigh hold; wp = isUp wp; seen = true }
+lines-are sck si wp High = refl
+lines-are sck si wp LowCsLow = refl
+lines-are sck si wp LowCsHigh = refl
 
 either : (t : Bool) → (t || true) ≡ true
 either true = refl
@@ -104,7 +117,8 @@ module _
         record { part = part; kept = kept; power = true; sck = sck; si = si; wp = wp; latch = latch; hold = hold; stage = Closed }
 
     abbrev pub lines : Wire
-    lines = wireOf sck si wp hold true
+    lines =
+        record { power = true; cs = csLevel idle; sck = sck; si = isUp si; hold = holdHigh hold; wp = isUp wp; seen = true }
 
     module _ (calls : List Call) (fits : Fits part calls) (counters : List ℕ) (sized : length counters ≡ rowCount (figureOf part)) where
       -- an array and a serial number, as if lent before the first event
@@ -117,12 +131,14 @@ module _
       unfolding first sound soundStage
       begins =
           let f = figureOf part in
-          record {
+          let world : World = record { latch = latch; kept = kept; array = replicate (f .size) 0 } in
+          subst (λ (l : Wire). Moment part l (outside false) world first) (lines-are sck si wp hold)
+          (record {
             agrees = on _ (outside false) _ _ sck si wp hold Closed (closed false);
             good = rw (one, masked);
             fits = length-replicate {A = ℕ} (f .size) 0;
             takes = rw (eq-eqb _ _ (length-replicate {A = ℕ} (f .serial) 0)) (either (eqb (f .serial) 0));
-          }
+          })
 
       -- "With all its events counted, counters that nobody else changes and none full after it, a READ that drives the first bit of n bytes
       --  from address a on, n at least 1, with rows of r bytes adds floor((a+n-1)/r) - floor(a/r) + 1, rollover included."

@@ -2,8 +2,8 @@
 use Prim.Native.Nat.{ℕ, zero, suc, _+_, _*_, _/_, _<_}
 use native.Mathlib.Nat.{zero-add, div-lt-iff-lt-mul, div-eq-of-eq-mul-left}
 use mathlib.Core.Bool.{Bool, true, false, cond}
-use mathlib.Core.List.{List, [], _∷_, _++_}
-use mathlib.Core.Path.{_≡_, refl, sym, ap, _∙_}
+use mathlib.Core.List.{List, [], _∷_}
+use mathlib.Core.Path.{_≡_, refl, ap, _∙_}
 use native.Mathlib.Omega.{arith}
 use lib.Dec.{eqb}
 use lib.ListN.{length, length-replicate, replicate}
@@ -13,9 +13,9 @@ use Rattle.parts.specs.declared.figures.Figure.{Figure}
 use Rattle.supply.specs.Power.{powerUp}
 use Rattle.supply.specs.PowerLaws.{power-one}
 use Rattle.chip.specs.Run.{fromPowerUp}
-use Rattle.wear.specs.Count.{addAll, rowCount}
+use Rattle.wear.specs.Count.{rowCount}
 use Rattle.wear.specs.Run.{Worn, unworn, countRun}
-use Rattle.history.specs.History.{World, reading, spanned, obeyed}
+use Rattle.history.specs.History.{World, reading, spanned}
 use Rattle.history.specs.Rows.{changes, cycles, touched, spanRows, rowsOf, rowHistory}
 use Rattle.history.specs.Transfers.{Span, transfer, cut, spans}
 use Rattle.history.specs.Laws.Worn.{AllBelow, below-append, touched-below}

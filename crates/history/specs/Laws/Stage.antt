@@ -3,7 +3,7 @@
 use Prim.Native.Nat.{ℕ, suc, _+_, _*_, _-_, _/_, _%_, _<_, _≤_}
 use native.Mathlib.Omega.{arith}
 use mathlib.Core.Bool.{Bool, true, false, cond}
-use mathlib.Core.List.{List, [], _∷_, _++_, map, append-nil}
+use mathlib.Core.List.{List, [], _∷_, _++_, map}
 use mathlib.Core.Path.{_≡_, refl, sym, ap, _∙_}
 use lib.Dec.{eqb, ltb}
 use lib.ListN.{length}
@@ -16,7 +16,7 @@ use Rattle.stages.specs.Close as close
 use Rattle.stages.specs.Wp.{lineOf, cameWith}
 use Rattle.select.specs.Fall.{fall, showArray, showStatus, showIdent, nextIdent, showSerial, nextSerial}
 use Rattle.stages.specs.declared.stage.Came.{Came}
-use Rattle.stages.specs.declared.stage.Came.the-variants.{NoByte, NoByteLow, Bytes, BytesLow}
+use Rattle.stages.specs.declared.stage.Came.the-variants.{NoByte, Bytes}
 use Rattle.stages.specs.declared.stage.End.{End}
 use Rattle.stages.specs.declared.stage.End.the-variants.{Quiet, Drops, Sleeps}
 use Rattle.stages.specs.declared.stage.Line.{Line}

@@ -1,8 +1,8 @@
 -- The bytes that a transfer touched, over the image of the stage: the stage keeps the last one, and an edge adds one or none. A READ adds
 -- one at each eighth fall past its header, a WRITE at each byte that is stored. Assumes nothing.
-use Prim.Native.Nat.{ℕ, zero, suc, _+_, _*_, _-_, _/_, _%_, _<_, _≤_}
+use Prim.Native.Nat.{ℕ, suc, _+_, _*_, _-_, _/_, _%_, _<_}
 use native.Mathlib.Omega.{arith}
-use mathlib.Core.Bool.{Bool, true, false, cond}
+use mathlib.Core.Bool.{Bool, true, false}
 use mathlib.Core.List.{List, [], _∷_, _++_, append-nil}
 use mathlib.Core.Path.{_≡_, refl, sym, ap, _∙_}
 use lib.Dec.{eqb}
@@ -26,7 +26,7 @@ use Rattle.history.specs.Bytes.{Byte, Reading, stores, shows, readAs, re
 use Rattle.history.specs.History.{World, overlay}
 use Rattle.history.specs.Rows.{fallsPast, begun, places, storedIf, storedAt, touched}
 use Rattle.history.specs.Laws.Edges.{rises-down, falls-down, places-more, stored-next, touched-early, lastMark, last-more, last-none, Grows, same, more}
-use Rattle.history.specs.Laws.Stage.{Ended, over, toStatus, toIdent, toSerial, status, ident, serial, dataOf, Idle, Paged, Settled, Image, code, upper, lower, dummy, ready, showing, writing, keeping, settled}
+use Rattle.history.specs.Laws.Stage.{Ended, over, toStatus, toIdent, toSerial, status, ident, serial, dataOf, Image, code, upper, lower, dummy, ready, showing, writing, keeping, settled}
 
 -- a byte more or none, by whether it is stored
 pub grows-by : {xs ys : List ℕ} (at : ℕ) (v : Verdict) → ys ≡ xs ++ storedIf at v → Grows xs ys

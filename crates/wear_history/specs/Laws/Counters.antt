@@ -1,13 +1,13 @@
 -- Counters, one row after the other: rows in two pieces; the sum grows by one for each row where none is full. Assumes nothing.
-use Prim.Native.Nat.{ℕ, zero, suc, _+_, _<_, _≤_}
+use Prim.Native.Nat.{ℕ, zero, suc, _+_, _<_}
 use native.Mathlib.Nat.{add-assoc, add-zero}
 use native.Mathlib.Omega.{arith}
 use mathlib.Core.Bool.{Bool, true, false, cond}
 use mathlib.Core.List.{List, [], _∷_, _++_}
 use mathlib.Core.Path.{_≡_, refl, sym, ap, _∙_}
 use lib.Dec.{eqb}
-use lib.ListN.{getD, length, length-set, set}
-use borrow.Author.Tests.{ne-eqb, eqb-true, eqb-false}
+use lib.ListN.{getD, length, length-set}
+use borrow.Author.Tests.{ne-eqb}
 use Rattle.wear.specs.Count.{full, oneMore, addOne, addAll}
 use Rattle.history.specs.Laws.Worn.{AllBelow}
 use Rattle.wear_history.specs.Totals.{sum, NoneFull}
@@ -16,11 +16,6 @@ pub add-append : (counters rows more : List ℕ) → addAll counters (rows ++ mo
 unfolding addAll
 add-append counters [] more = refl
 add-append counters (row ∷ rows) more = add-append (addOne counters row) rows more
-
-pub add-length : (counters rows : List ℕ) → length (addAll counters rows) ≡ length counters
-unfolding addAll
-add-length counters [] = refl
-add-length counters (row ∷ rows) = add-length (addOne counters row) rows ∙ length-set counters row (oneMore (getD counters row 0))
 
 -- a counter that is not full after one more was not full before it
 not-full : (count : ℕ) → oneMore count < full → count < full

@@ -20,7 +20,7 @@ use Rattle.history.specs.Laws.Bytes.{cut-bytes}
 use Rattle.history.specs.Laws.Edges.{rises-append}
 use Rattle.history.specs.Laws.Moments.{Moment}
 use Rattle.history.specs.Laws.Place.{Place, outside, inside, isOutside, readSoFar, completed, placeAfter}
-use Rattle.history.specs.Laws.Select.{Selected, closed, waking, going}
+use Rattle.history.specs.Laws.Select.{Selected, closed, going}
 use Rattle.history.specs.Laws.Stage.{Image, code, upper, lower, dummy, ready, showing, writing, keeping, settled}
 use Rattle.history.specs.Laws.Step.{Agrees, off, on, wireOf, chipOf}
 use Rattle.history.specs.Laws.Worn.{touchedAt, rowsAt, rowsFrom}

@@ -1,10 +1,10 @@
 -- A counted event, at a moment of a run: the answer is the event's own, and the rows of the open transfer grow by the row that it adds.
 -- Assumes nothing.
-use Prim.Native.Nat.{ℕ, _/_, _<_, _≤_}
+use Prim.Native.Nat.{ℕ, _<_}
 use native.Mathlib.Omega.{arith}
 use mathlib.Core.Bool.{true, false}
 use mathlib.Core.List.{List, [], _∷_, _++_}
-use mathlib.Core.Path.{_≡_, refl, sym, ap, _∙_}
+use mathlib.Core.Path.{_≡_, sym, ap, _∙_}
 use lib.Dec.{eqb}
 use lib.ListN.{length}
 use borrow.Author.Tests.{eq-eqb, ne-eqb}
@@ -14,8 +14,8 @@ use Rattle.stages.specs.Last.{lastOf}
 use Rattle.chip.specs.Event.{event}
 use Rattle.chip.specs.Run.{Chip, answered, next, run}
 use Rattle.chip.specs.declared.event.Answer.{Answer}
-use Rattle.wear.specs.Count.{cycled, addAll, rowCount, countRefusal, counted, countersAfter}
-use Rattle.wear.specs.CountLaws.{count-accepts}
+use Rattle.wear.specs.Count.{cycled, addAll, rowCount, countRefusal, countersAfter}
+use Rattle.wear.specs.CountLaws.{adds-length, count-accepts}
 use Rattle.wear.specs.Run.{Worn, worn, countOne, countRun}
 use Rattle.history.specs.History.{World}
 use Rattle.history.specs.Rows.{cycles}
@@ -25,7 +25,7 @@ use Rattle.history.specs.Laws.Moments.{Moment, own-part, moment-next}
 use Rattle.history.specs.Laws.Place.{Place, placeAfter, base}
 use Rattle.history.specs.Laws.Worn.{touchedAt, rowsAt, rowsFrom, rows-now, finished, rows-next, Turned, ended, went, agrees-last, agrees-turns, place-below}
 use Rattle.wear_history.specs.Laws.Changes.{grows-rows}
-use Rattle.wear_history.specs.Laws.Counters.{add-append, add-length}
+use Rattle.wear_history.specs.Laws.Counters.{add-append}
 
 module _ (part : ℕ) (fair : Fair (figureOf part)) (rowed : 0 < figureOf part .row) where
   size-some : 0 < figureOf part .size
@@ -98,7 +98,7 @@ module _ (part : ℕ) (fair : Fair (figureOf part)) (rowed : 0 < figureOf part .
       let a = act l code in
       let more = cycled (f .row) (lastOf (c .state .stage)) (lastOf (next c code .state .stage)) in
       ap (λ (v : Worn). countRun v codes) (one-counted m counters code sized)
-      ∙ counts n (addAll before (finished f w p a)) (addAll counters more) (add-length counters more ∙ sized)
+      ∙ counts n (addAll before (finished f w p a)) (addAll counters more) (adds-length more counters ∙ sized)
       (ap (λ (cs : List ℕ). addAll cs more) told ∙ sym (add-append before (rowsAt f w p) more) ∙ ap (addAll before) (sym (turned-rows m code n))
       ∙ add-append before (finished f w p a) (rowsAt f (base f w p a) (placeAfter f p a)))
       codes

@@ -13,9 +13,20 @@ returns c =
 returns-2 : tie.Need-returns-2
 unfolding writeRise
 returns-2 c =
-    let b = c .before .before .before in
-    let t = b .before .before .before in
-    simp (c .last-by .ensures, c .before .store-note .ensures, c .before .before .next-address .ensures, b .may-store .ensures, b .before .came-up .ensures, ← t .before .before .byte-came .ensures, ← t .before .before .before .take-bit .ensures, t .taken2 .given .1)
+    let next = c .before .before in
+    let judged = next .before in
+    let whole = judged .before .before .before in
+    let came = whole .before .before in
+    simp (
+      c .last-by .ensures,
+      c .before .store-note .ensures,
+      next .next-address .ensures,
+      judged .may-store .ensures,
+      judged .before .came-up .ensures,
+      ← came .byte-came .ensures,
+      ← came .before .take-bit .ensures,
+      whole .taken2 .given .1,
+    )
 
 pub write-rise-spec : {M : Type 1} → statement M
 write-rise-spec =
