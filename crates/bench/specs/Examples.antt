@@ -2,31 +2,31 @@
 -- proof, computed from the definition that the promise of `report` cites. Assumes nothing.
 use Rattle.std.specs.Prelude.{ℕ, Bool, true, ◌&&◌, List, [], ◌∷◌, ◌++◌, T}
 use Rattle.trace.specs.Number.{reading}
-use Rattle.parts.specs.Figures.{figureOf}
+use Rattle.parts.specs.Figures.{figure_of}
 use Rattle.parts.specs.Commands.{command}
-use Rattle.stages.specs.Address.{afterCode, afterAddress, nextAddress}
-use Rattle.stages.specs.Bits.{takeBit, bit_of}
-use Rattle.stages.specs.Wp.{fallWp, byteWp, byteCame}
-use Rattle.stages.specs.Close.{afterFall}
-use Rattle.stages.specs.Sound.{soundStage}
-use Rattle.select.specs.Fall.{showArray, showStatus, fall}
-use Rattle.select.specs.Rise.{opened, codeRise, lowerRise, rise}
-use Rattle.pins.specs.Edges.{csFall, csRise, sckRise, sckFall}
+use Rattle.stages.specs.Address.{after_code, after_address, next_address}
+use Rattle.stages.specs.Bits.{take_bit, bit_of}
+use Rattle.stages.specs.Wp.{fall_wp, byte_wp, byte_came}
+use Rattle.stages.specs.Close.{after_fall}
+use Rattle.stages.specs.Sound.{sound_stage}
+use Rattle.select.specs.Fall.{show_array, show_status, fall}
+use Rattle.select.specs.Rise.{opened, code_rise, lower_rise, rise}
+use Rattle.pins.specs.Edges.{cs_fall, cs_rise, sck_rise, sck_fall}
 use Rattle.pins.specs.Sound.{rests, sound}
-use Rattle.pins.specs.Watch.{isOpen, seesRise}
+use Rattle.pins.specs.Watch.{is_open, sees_rise}
 use Rattle.step.specs.Step.{live, step, written}
 use Rattle.chip.specs.Event.{checks, event}
 use Rattle.chip.specs.Examples.Run.{same}
-use Rattle.supply.specs.Power.{fillRefusal, filled, powerRefusal, powerUp}
-use Rattle.trace.specs.Items.{itemEvents, clocked}
-use Rattle.report.specs.Lines.{codeText, shownText, partLine, countsText, selectLine, endLine}
-use Rattle.report.specs.Record.{counted, codeAfter, sampled, risen, shownAfter, noted}
+use Rattle.supply.specs.Power.{fill_refusal, filled, power_refusal, power_up}
+use Rattle.trace.specs.Items.{item_events, clocked}
+use Rattle.report.specs.Lines.{code_text, shown_text, part_line, counts_text, select_line, end_line}
+use Rattle.report.specs.Record.{counted, code_after, sampled, risen, shown_after, noted}
 use Rattle.report.specs.Text.{ascii, capitals, hex, decimal}
-use Rattle.turns.specs.Bench.{afterEvent}
+use Rattle.turns.specs.Bench.{after_event}
 use Rattle.bench.specs.Head.{leading, head_of}
 use Rattle.bench.specs.Report.{report}
-use Rattle.bench.specs.Run.{afterItem, itemsFrom, ranFrom, started, ran, replayed}
-use Rattle.turns.specs.Stand.{closes, clockedBy, shownBy, after}
+use Rattle.bench.specs.Run.{after_item, items_from, ran_from, started, ran, replayed}
+use Rattle.turns.specs.Stand.{closes, clocked_by, shown_by, after}
 
 pub record Example : Type 0 where
   pub trace : List ℕ
@@ -123,5 +123,5 @@ traces =
     ∷ []
 
 examples : T (all traces)
-unfolding all traces figureOf command afterCode afterAddress nextAddress takeBit fallWp byteWp byteCame afterFall bit_of showArray showStatus fall opened codeRise lowerRise rise soundStage csFall csRise sckRise sckFall live step checks event written rests sound isOpen seesRise reading fillRefusal filled powerRefusal powerUp clocked itemEvents counted codeAfter sampled risen shownAfter noted leading head_of afterEvent afterItem itemsFrom ranFrom started ran replayed closes clockedBy shownBy after codeText shownText partLine countsText selectLine endLine capitals hex decimal report
+unfolding all traces figure_of command after_code after_address next_address take_bit fall_wp byte_wp byte_came after_fall bit_of show_array show_status fall opened code_rise lower_rise rise sound_stage cs_fall cs_rise sck_rise sck_fall live step checks event written rests sound is_open sees_rise reading fill_refusal filled power_refusal power_up clocked item_events counted code_after sampled risen shown_after noted leading head_of after_event after_item items_from ran_from started ran replayed closes clocked_by shown_by after code_text shown_text part_line counts_text select_line end_line capitals hex decimal report
 examples = tt

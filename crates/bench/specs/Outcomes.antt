@@ -6,8 +6,8 @@ use Rattle.laws.specs.TestLaws.{sole}
 use Rattle.turns.specs.Page.{Page, page_of}
 use Rattle.bench.specs.Report.{reported}
 
-pub report-one : (s out : List ℕ) (a b : ℕ) (xs ys : List ℕ)
+pub report_one : (s out : List ℕ) (a b : ℕ) (xs ys : List ℕ)
     → page_of xs a ≡ reported s out → page_of ys b ≡ reported s out → (a ≡ b) × (xs ≡ ys)
-report-one s out a b xs ys p q =
+report_one s out a b xs ys p q =
     let same : page_of xs a ≡ page_of ys b = sole p q in
     (ap (λ (x : Page). x.at) same, ap (λ (x : Page). x.bytes) same)

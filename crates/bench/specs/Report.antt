@@ -1,27 +1,27 @@
 -- The report of a trace, whole, byte by byte (document 01, "The replay program"). Assumes nothing.
 use Rattle.std.specs.Prelude.{ℕ, cond, List, [], ◌++◌, replicate}
-use Rattle.pins.specs.Watch.{isOpen}
-use Rattle.report.specs.Lines.{endLine}
-use Rattle.report.specs.Record.{mostShown}
-use Rattle.turns.specs.Bench.{Bench, selectText}
+use Rattle.pins.specs.Watch.{is_open}
+use Rattle.report.specs.Lines.{end_line}
+use Rattle.report.specs.Record.{most_shown}
+use Rattle.turns.specs.Bench.{Bench, select_text}
 use Rattle.turns.specs.Page.{Page, page_of, printed}
 use Rattle.bench.specs.Run.{replayed}
 use Rattle.turns.specs.declared.stand.Stand.{Stand}
 
 -- "also one left open by the end, a refusal"
-abbrev pub openText : Stand → List ℕ → List ℕ
-openText stand shown = cond (isOpen stand.chip) (selectText stand shown) []
+abbrev pub open_text : Stand → List ℕ → List ℕ
+open_text stand shown = cond (is_open stand.chip) (select_text stand shown) []
 
 -- "Last line: kept bits in hex (00 before power-up), latch (0 before power-up), refusal."
-abbrev pub lastText : Stand → ℕ → List ℕ → List ℕ
-lastText stand refusal shown = openText stand shown ++ endLine stand.chip.kept stand.chip.latch refusal
+abbrev pub last_text : Stand → ℕ → List ℕ → List ℕ
+last_text stand refusal shown = open_text stand shown ++ end_line stand.chip.kept stand.chip.latch refusal
 
-abbrev pub wholeText : Bench → List ℕ
-wholeText b = b.text ++ lastText b.stand b.refusal b.shown
+abbrev pub whole_text : Bench → List ℕ
+whole_text b = b.text ++ last_text b.stand b.refusal b.shown
 
 -- line 1, the lines of the selects in the order of their closing, the line of one left open, the last line
 unfoldable pub report : List ℕ → List ℕ
-report s = wholeText (replayed s (replicate mostShown 0))
+report s = whole_text (replayed s (replicate most_shown 0))
 
 -- what the call `report` leaves: the report at the slice's front, cut where the slice ends, and how much of it that is
 abbrev pub reported : List ℕ → List ℕ → Page

@@ -1,9 +1,9 @@
 // The run of a trace: power-up, then item by item.
 ghost use Rattle.std.specs.Prelude.{◌≡◌, []};
-ghost use Rattle.turns.specs.Bench.{benchOf, deskOf, onPage, afterEvents};
+ghost use Rattle.turns.specs.Bench.{bench_of, desk_of, on_page, after_events};
 ghost use Rattle.turns.specs.Page.{page_of, printed};
-ghost use Rattle.trace.specs.Items.{shortEvents};
-ghost use Rattle.bench.specs.Run.{afterItem, ranFrom, started, ran, replayed};
+ghost use Rattle.trace.specs.Items.{short_events};
+ghost use Rattle.bench.specs.Run.{after_item, ran_from, started, ran, replayed};
 
 use crate::head::{Head, head_of};
 use parts::figures::{LARGEST, figure_of};
@@ -26,9 +26,9 @@ fn take_short(
     out: &mut [u8],
     item: u64,
 ) -> Turn
-    ensures { deskOf result array.new shown.new out.new
-        ≡ onPage (page_of out.old turn.at)
-        (afterEvents (benchOf turn array.old shown.old) (shortEvents item)) }
+    ensures { desk_of result array.new shown.new out.new
+        ≡ on_page (page_of out.old turn.at)
+        (after_events (bench_of turn array.old shown.old) (short_events item)) }
 {
     let events = events_of(item);
     let mut turn = turn;
@@ -51,8 +51,8 @@ fn take_item(
     out: &mut [u8],
     item: u64,
 ) -> Turn
-    ensures { deskOf result array.new shown.new out.new
-        ≡ onPage (page_of out.old turn.at) (afterItem (benchOf turn array.old shown.old) item) }
+    ensures { desk_of result array.new shown.new out.new
+        ≡ on_page (page_of out.old turn.at) (after_item (bench_of turn array.old shown.old) item) }
 {
     let pulses = pulses_of(item);
     if 0 < pulses {
@@ -70,9 +70,9 @@ fn take_items(
     shown: &mut [u8; SHOWN],
     out: &mut [u8],
 ) -> Turn
-    ensures { deskOf result array.new shown.new out.new
-        ≡ onPage (page_of out.old turn.at)
-        (ranFrom trace.now at (benchOf turn array.old shown.old)) }
+    ensures { desk_of result array.new shown.new out.new
+        ≡ on_page (page_of out.old turn.at)
+        (ran_from trace.now at (bench_of turn array.old shown.old)) }
 {
     let mut turn = turn;
     let mut place = at;
@@ -96,8 +96,8 @@ fn take_items(
 
 // Power-up, with a fresh array. Line 1 is printed where it is accepted; SO showed nothing yet.
 fn start(lead: Head, array: &mut [u8], out: &mut [u8]) -> Turn
-    ensures { deskOf result array.new [] out.new
-        ≡ onPage (page_of out.old 0) (started lead array.old []) }
+    ensures { desk_of result array.new [] out.new
+        ≡ on_page (page_of out.old 0) (started lead array.old []) }
 {
     fill(lead.part, array);
     let powered = power_up(lead.part, lead.kept, array);
@@ -120,8 +120,8 @@ fn start(lead: Head, array: &mut [u8], out: &mut [u8]) -> Turn
 
 // From power-up on, with an array of the part's size.
 fn run(trace: &[u8], lead: Head, array: &mut [u8], shown: &mut [u8; SHOWN], out: &mut [u8]) -> Turn
-    ensures { deskOf result array.new shown.new out.new
-        ≡ onPage (page_of out.old 0) (ran trace.now lead array.old shown.old) }
+    ensures { desk_of result array.new shown.new out.new
+        ≡ on_page (page_of out.old 0) (ran trace.now lead array.old shown.old) }
 {
     let turn = start(lead, array, out);
     take_items(trace, lead.items, turn, array, shown, out)

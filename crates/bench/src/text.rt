@@ -1,7 +1,7 @@
 // The report of a trace, as text in a lent slice.
 ghost use Rattle.std.specs.Prelude.{◌≡◌};
 ghost use Rattle.turns.specs.Page.{page_of, printed};
-ghost use Rattle.bench.specs.Report.{openText, lastText, reported};
+ghost use Rattle.bench.specs.Report.{open_text, last_text, reported};
 
 use crate::run::run_whole;
 use pins::watch::is_open;
@@ -12,7 +12,7 @@ use turns::turn::Turn;
 
 // The line of a select left open.
 fn print_open(out: &mut [u8], at: usize, stand: Stand, shown: &[u8; SHOWN]) -> usize
-    ensures { page_of out.new result ≡ printed (page_of out.old at) (openText stand shown.now) }
+    ensures { page_of out.new result ≡ printed (page_of out.old at) (open_text stand shown.now) }
 {
     let chip = stand.chip;
     if is_open(chip) {
@@ -24,7 +24,7 @@ fn print_open(out: &mut [u8], at: usize, stand: Stand, shown: &[u8; SHOWN]) -> u
 // What is left to tell at the end: the line of a select left open, and the last line.
 fn print_last(out: &mut [u8], turn: Turn, shown: &[u8; SHOWN]) -> usize
     ensures { page_of out.new result
-        ≡ printed (page_of out.old turn.at) (lastText turn.stand turn.refusal shown.now) }
+        ≡ printed (page_of out.old turn.at) (last_text turn.stand turn.refusal shown.now) }
 {
     let stand = turn.stand;
     let chip = stand.chip;

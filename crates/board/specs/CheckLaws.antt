@@ -2,13 +2,13 @@
 use Rattle.std.specs.Prelude.{ℕ, ◌<◌, ◌≤◌, ◌≡◌, refl, Bool, true, false, cond, not, ◌&&◌, ◌||◌, eqb, leb, ltb}
 use Rattle.std.proofs.Common.{sym, eqb-true, leb-false, ltb-false}
 use Rattle.std.proofs.lemmas.Bool.{eqb-false}
-use Rattle.board.specs.Chips.{fitted, together, serialsTogether}
-use Rattle.board.specs.Checks.{isOwn, noBoard, allSound, checks}
+use Rattle.board.specs.Chips.{fitted, together, serials_together}
+use Rattle.board.specs.Checks.{is_own, no_board, all_sound, checks}
 use Rattle.board.specs.declared.chips.Board.{Board}
 
 -- "no chips or over eight"
-pub few : (count : ℕ) → noBoard count ≡ false → count ≤ 8
-unfolding noBoard
+pub few : (count : ℕ) → no_board count ≡ false → count ≤ 8
+unfolding no_board
 few count h = ltb-false 8 count (second (eqb count 0) (ltb 8 count) h)
   where
     second : (a b : Bool) → (a || b) ≡ false → b ≡ false
@@ -17,19 +17,19 @@ few count h = ltb-false 8 count (second (eqb count 0) (ltb 8 count) h)
 
 -- what the checks let through
 pub record Passed (b : Board) (len serials chip code : ℕ) : Type 0 where
-  pub some : noBoard b.count ≡ false
+  pub some : no_board b.count ≡ false
   pub few : b.count ≤ 8
-  pub there : isOwn code ≡ true → chip < b.count
-  pub sound : allSound (fitted b) ≡ true
+  pub there : is_own code ≡ true → chip < b.count
+  pub sound : all_sound (fitted b) ≡ true
   pub long : together (fitted b) ≡ len
-  pub numbered : serialsTogether (fitted b) ≡ serials
+  pub numbered : serials_together (fitted b) ≡ serials
   pub known : code < 12
 
-pub checks-passed : (b : Board) (len serials chip code : ℕ) → checks b len serials chip code ≡ 0 → Passed b len serials chip code
+pub checks_passed : (b : Board) (len serials chip code : ℕ) → checks b len serials chip code ≡ 0 → Passed b len serials chip code
 unfolding checks
-checks-passed b len serials chip code =
-    go (noBoard b.count) (isOwn code && leb b.count chip) (allSound (fitted b)) (eqb len (together (fitted b)))
-    (eqb serials (serialsTogether (fitted b))) (leb 12 code)
+checks_passed b len serials chip code =
+    go (no_board b.count) (is_own code && leb b.count chip) (all_sound (fitted b)) (eqb len (together (fitted b)))
+    (eqb serials (serials_together (fitted b))) (leb 12 code)
     refl refl refl refl refl refl
   where
     -- not 14: the line is shared, or the chip is there
@@ -38,8 +38,8 @@ checks-passed b len serials chip code =
     named true false p e own = leb-false b.count chip p
     named false l p e own = absurd (eqb-false 0 1 refl cc)
 
-    go : (n o s e m k : Bool) → noBoard b.count ≡ n → (isOwn code && leb b.count chip) ≡ o → allSound (fitted b) ≡ s
-        → eqb len (together (fitted b)) ≡ e → eqb serials (serialsTogether (fitted b)) ≡ m → leb 12 code ≡ k
+    go : (n o s e m k : Bool) → no_board b.count ≡ n → (is_own code && leb b.count chip) ≡ o → all_sound (fitted b) ≡ s
+        → eqb len (together (fitted b)) ≡ e → eqb serials (serials_together (fitted b)) ≡ m → leb 12 code ≡ k
         → ◌≡◌ {A = ℕ} (cond n 13 (cond o 14 (cond (not s) 4 (cond (not e) 2 (cond (not m) 15 (cond k 5 0)))))) 0
         → Passed b len serials chip code
     go true o s e m k pn po ps pe pm pk h = absurd (eqb-false 13 0 refl h)
@@ -52,7 +52,7 @@ checks-passed b len serials chip code =
         record {
           some = pn;
           few = few b.count pn;
-          there = named (isOwn code) (leb b.count chip) refl po;
+          there = named (is_own code) (leb b.count chip) refl po;
           sound = ps;
           long = sym (eqb-true _ _ pe);
           numbered = sym (eqb-true _ _ pm);

@@ -2,9 +2,9 @@
 use Rattle.std.specs.Prelude.{ℕ, zero, suc, cond, List, [], ◌∷◌, eqb, length}
 use Rattle.chip.specs.Event as chip
 use Rattle.chip.specs.Run.{Chip, next}
-use Rattle.board.specs.Chips.{chipsOf, states, slice, withChips}
-use Rattle.board.specs.Checks.{isOwn, checks}
-use Rattle.board.specs.So.{boardSo}
+use Rattle.board.specs.Chips.{chips_of, states, slice, with_chips}
+use Rattle.board.specs.Checks.{is_own, checks}
+use Rattle.board.specs.So.{board_so}
 use Rattle.board.specs.declared.chips.Board.{Board}
 use Rattle.board.specs.declared.so.BoardSo.{BoardSo}
 use Rattle.board.specs.declared.so.BoardSo.TheVariants.{Released}
@@ -21,17 +21,17 @@ at zero code (c ∷ cs) = next c code ∷ cs
 at (suc k) code (c ∷ cs) = c ∷ at k code cs
 
 abbrev pub moved : ℕ → ℕ → List Chip → List Chip
-moved k code cs = cond (isOwn code) (at k code cs) (every code cs)
+moved k code cs = cond (is_own code) (at k code cs) (every code cs)
 
 -- "then 6 and 7 of the chip moved"
-unfoldable pub refusalAt : ℕ → ℕ → List Chip → ℕ
-refusalAt k code [] = 0
-refusalAt zero code (c ∷ cs) = (chip.event c.serial c.array c.state code).refusal
-refusalAt (suc k) code (c ∷ cs) = refusalAt k code cs
+unfoldable pub refusal_at : ℕ → ℕ → List Chip → ℕ
+refusal_at k code [] = 0
+refusal_at zero code (c ∷ cs) = (chip.event c.serial c.array c.state code).refusal
+refusal_at (suc k) code (c ∷ cs) = refusal_at k code cs
 
 unfoldable pub refusal : List ℕ → List ℕ → Board → ℕ → ℕ → ℕ
 refusal serials xs b k code =
-    chip.first (checks b (length xs) (length serials) k code) (cond (isOwn code) (refusalAt k code (chipsOf b xs serials)) 0)
+    chip.first (checks b (length xs) (length serials) k code) (cond (is_own code) (refusal_at k code (chips_of b xs serials)) 0)
 
 -- what an event leaves: the answer, and the lent slice; the serials are lent read only
 pub record Outcome : Type 0 where
@@ -41,7 +41,7 @@ pub record Outcome : Type 0 where
   pub slice : List ℕ
 
 abbrev pub left : Board → List Chip → Outcome
-left b cs = record { refusal = 0; so = boardSo (states cs); board = withChips b cs; slice = slice cs }
+left b cs = record { refusal = 0; so = board_so (states cs); board = with_chips b cs; slice = slice cs }
 
 -- "a refused event changes no chip"; "SO reads released" (document 01)
 abbrev pub refused : ℕ → Board → List ℕ → Outcome
@@ -51,5 +51,5 @@ refused number b xs = record { refusal = number; so = Released; board = b; slice
 unfoldable pub event : List ℕ → List ℕ → Board → ℕ → ℕ → Outcome
 event serials xs b k code =
     cond (eqb (refusal serials xs b k code) 0)
-    (left b (moved k code (chipsOf b xs serials)))
+    (left b (moved k code (chips_of b xs serials)))
     (refused (refusal serials xs b k code) b xs)

@@ -8,13 +8,13 @@ use Rattle.std.proofs.Math.Seq.{take-length}
 use Rattle.pins.specs.declared.state.State.{State}
 use Rattle.chip.specs.Promises.{EventPromise}
 use Rattle.chip.specs.Run.{Chip, next}
-use Rattle.chip.specs.RunLaws.{next-length}
+use Rattle.chip.specs.RunLaws.{next_length}
 use Rattle.chip.specs.declared.event.Answer.{Answer}
-use Rattle.board.specs.Chips.{pieceLength, serialLength, sum, together, serialsTogether, pieces, states, slice}
+use Rattle.board.specs.Chips.{piece_length, serial_length, sum, together, serials_together, pieces, states, slice}
 use Rattle.board.specs.Event.{every}
-use Rattle.board.specs.LentLaws.{lent, told-state, told_array}
-use Rattle.board.specs.PieceLaws.{part_length, put-length, put-take, put-drop}
-use Rattle.board.specs.WalkLaws.{rest, rest-next, rest-none, place-next, none-added, added, all-added}
+use Rattle.board.specs.LentLaws.{lent, told_state, told_array}
+use Rattle.board.specs.PieceLaws.{part_length, put_length, put_take, put_drop}
+use Rattle.board.specs.WalkLaws.{rest, rest_next, rest_none, place_next, none_added, added, all_added}
 use Rattle.board.specs.declared.chips.Board.{Board}
 
 -- "A shared line moves every chip": at chip i those before it have moved, it and those behind it are as they were, and what
@@ -25,7 +25,7 @@ pub record Going (code : ℕ) (b : Board) (ns xs₀ : List ℕ) (n : ℕ) (after
   pub count : after.count ≡ b.count
   pub wide : length after.chips ≡ length b.chips
   pub long : start + together (rest i n b.chips) ≡ length xs
-  pub own : from + serialsTogether (rest i n b.chips) ≡ length ns
+  pub own : from + serials_together (rest i n b.chips) ≡ length ns
   pub kept : length xs ≡ length xs₀
   pub chips :
       take i after.chips ++ (states (every code (pieces (rest i n b.chips) (drop start xs) (drop from ns))) ++ drop n after.chips)
@@ -35,17 +35,17 @@ pub record Going (code : ℕ) (b : Board) (ns xs₀ : List ℕ) (n : ℕ) (after
       ≡ slice (every code (pieces (rest 0 n b.chips) xs₀ ns))
 
 module _ (code : ℕ) (b : Board) (ns xs₀ : List ℕ) (n : ℕ) where
-  pub going-starts :
-      n ≤ length b.chips → together (rest 0 n b.chips) ≡ length xs₀ → serialsTogether (rest 0 n b.chips) ≡ length ns
+  pub going_starts :
+      n ≤ length b.chips → together (rest 0 n b.chips) ≡ length xs₀ → serials_together (rest 0 n b.chips) ≡ length ns
       → Going code b ns xs₀ n b xs₀ 0 0 0
-  going-starts h e o =
+  going_starts h e o =
       record {
         inside = zero-le;
         places = h;
         count = refl;
         wide = refl;
-        long = none-added _ ∙ e;
-        own = none-added _ ∙ o;
+        long = none_added _ ∙ e;
+        own = none_added _ ∙ o;
         kept = refl;
         chips = refl;
         bytes = refl;
@@ -58,7 +58,7 @@ module _ (code : ℕ) (b : Board) (ns xs₀ : List ℕ) (n : ℕ) where
     -- past the last chip
     module _ (h : n ≤ i) where
       none : rest i n b.chips ≡ []
-      none = rest-none b.chips n g.places i g.inside h
+      none = rest_none b.chips n g.places i g.inside h
 
       all_moved : C ≡ states (every code (pieces (rest 0 n b.chips) xs₀ ns)) ++ drop n b.chips
       unfolding C states every pieces
@@ -67,21 +67,21 @@ module _ (code : ℕ) (b : Board) (ns xs₀ : List ℕ) (n : ℕ) where
           ∙ sym (ap (λ (ss : List State). take i C ++ (states (every code (pieces ss (drop start xs) (drop from ns))) ++ drop n C)) none)
           ∙ g.chips
 
-      all-written : xs ≡ slice (every code (pieces (rest 0 n b.chips) xs₀ ns))
+      all_written : xs ≡ slice (every code (pieces (rest 0 n b.chips) xs₀ ns))
       unfolding slice every pieces sum
-      all-written =
+      all_written =
           sym (append-nil (take start xs) ∙ ap (λ (k : ℕ). take k xs) full ∙ take-length xs)
           ∙ sym (ap (λ (ss : List State). take start xs ++ slice (every code (pieces ss (drop start xs) (drop from ns)))) none)
           ∙ g.bytes
         where
           full : start ≡ length xs
-          full = all-added start (length xs) (sym (ap (λ (ss : List State). start + together ss) none) ∙ g.long)
+          full = all_added start (length xs) (sym (ap (λ (ss : List State). start + together ss) none) ∙ g.long)
 
-      pub going-ends :
+      pub going_ends :
           (after ≡ record { count = b.count; chips = states (every code (pieces (take n b.chips) xs₀ ns)) ++ drop n b.chips })
           × (xs ≡ slice (every code (pieces (take n b.chips) xs₀ ns)))
       unfolding C
-      going-ends = (λ j. record { count = g.count j; chips = all_moved j }, all-written)
+      going_ends = (λ j. record { count = g.count j; chips = all_moved j }, all_written)
 
     -- one turn
     module _ (d : State) (h : i < n) where
@@ -89,24 +89,24 @@ module _ (code : ℕ) (b : Board) (ns xs₀ : List ℕ) (n : ℕ) where
       s = get_or b.chips i d
 
       abbrev p : ℕ
-      p = pieceLength s.part
+      p = piece_length s.part
 
       abbrev q : ℕ
-      q = serialLength s.part
+      q = serial_length s.part
 
       abbrev more : List State
       more = rest (i + 1) n b.chips
 
       on : rest i n b.chips ≡ s ∷ more
-      on = rest-next b.chips n g.places i d h
+      on = rest_next b.chips n g.places i d h
 
       long : start + (p + together more) ≡ length xs
       unfolding sum
       long = sym (ap (λ (ss : List State). start + together ss) on) ∙ g.long
 
-      own : from + (q + serialsTogether more) ≡ length ns
+      own : from + (q + serials_together more) ≡ length ns
       unfolding sum
-      own = sym (ap (λ (ss : List State). from + serialsTogether ss) on) ∙ g.own
+      own = sym (ap (λ (ss : List State). from + serials_together ss) on) ∙ g.own
 
       inner : (a p t n : ℕ) → a + (p + t) ≡ n → a + p ≤ n
       inner a p t n e = omega (arith, e)
@@ -119,27 +119,27 @@ module _ (code : ℕ) (b : Board) (ns xs₀ : List ℕ) (n : ℕ) where
 
       module _ (t : State) (ys : List ℕ) (et : (next its code).state ≡ t) (ey : (next its code).array ≡ ys) where
         same : length ys ≡ p
-        same = ap (λ (zs : List ℕ). length zs) (sym ey) ∙ next-length its code ∙ part_length xs start p fits
+        same = ap (λ (zs : List ℕ). length zs) (sym ey) ∙ next_length its code ∙ part_length xs start p fits
 
         abbrev xs' : List ℕ
         xs' = take start xs ++ (ys ++ drop p (drop start xs))
 
         beyond : drop (start + p) xs' ≡ drop p (drop start xs)
-        beyond = put-drop xs ys start p fits same
+        beyond = put_drop xs ys start p fits same
 
-        beyond-own : drop (from + q) ns ≡ drop q (drop from ns)
-        beyond-own = sym (drop-drop q from ns)
+        beyond_own : drop (from + q) ns ≡ drop q (drop from ns)
+        beyond_own = sym (drop-drop q from ns)
 
         moved : List State
         moved = states (every code (pieces more (drop p (drop start xs)) (drop q (drop from ns))))
 
-        moved_on :
+        moved_on_lem :
             take (i + 1) (set C i t) ++ (states (every code (pieces more (drop (start + p) xs') (drop (from + q) ns))) ++ drop n (set C i t))
             ≡ states (every code (pieces (rest 0 n b.chips) xs₀ ns)) ++ drop n b.chips
         unfolding C moved states every pieces
-        moved_on =
-            (λ j. take (i + 1) (set C i t) ++ (states (every code (pieces more (beyond j) (beyond-own j))) ++ drop n (set C i t)))
-            ∙ place-next C moved n i t h (lt_of_lt_of_le h (subst (λ (k : ℕ). n ≤ k) (sym g.wide) g.places))
+        moved_on_lem =
+            (λ j. take (i + 1) (set C i t) ++ (states (every code (pieces more (beyond j) (beyond_own j))) ++ drop n (set C i t)))
+            ∙ place_next C moved n i t h (lt_of_lt_of_le h (subst (λ (k : ℕ). n ≤ k) (sym g.wide) g.places))
             ∙ ap (λ (u : State). take i C ++ (u ∷ (moved ++ drop n C))) (sym et)
             ∙ sym (ap (λ (ss : List State). take i C ++ (states (every code (pieces ss (drop start xs) (drop from ns))) ++ drop n C)) on)
             ∙ g.chips
@@ -152,8 +152,8 @@ module _ (code : ℕ) (b : Board) (ns xs₀ : List ℕ) (n : ℕ) where
             ≡ slice (every code (pieces (rest 0 n b.chips) xs₀ ns))
         unfolding written slice every pieces
         written_on =
-            (λ j. take (start + p) xs' ++ slice (every code (pieces more (beyond j) (beyond-own j))))
-            ∙ ap (λ (front : List ℕ). front ++ written) (put-take xs ys start p fits same)
+            (λ j. take (start + p) xs' ++ slice (every code (pieces more (beyond j) (beyond_own j))))
+            ∙ ap (λ (front : List ℕ). front ++ written) (put_take xs ys start p fits same)
             ∙ append_assoc (take start xs) ys written
             ∙ ap (λ (u : List ℕ). take start xs ++ (u ++ written)) (sym ey)
             ∙ sym (ap (λ (ss : List State). take start xs ++ slice (every code (pieces ss (drop start xs) (drop from ns)))) on)
@@ -167,19 +167,19 @@ module _ (code : ℕ) (b : Board) (ns xs₀ : List ℕ) (n : ℕ) where
               places = g.places;
               count = g.count;
               wide = length-set after.chips i t ∙ g.wide;
-              long = added start p (together more) (length xs) p refl long ∙ sym (put-length xs ys start p fits same);
-              own = added from q (serialsTogether more) (length ns) q refl own;
-              kept = put-length xs ys start p fits same ∙ g.kept;
-              chips = moved_on;
+              long = added start p (together more) (length xs) p refl long ∙ sym (put_length xs ys start p fits same);
+              own = added from q (serials_together more) (length ns) q refl own;
+              kept = put_length xs ys start p fits same ∙ g.kept;
+              chips = moved_on_lem;
               bytes = written_on;
             }
 
       -- as the code has it: the pieces end at start + m and from + l
-      pub ends-inside : (m : ℕ) → m ≡ p → start + m ≤ length xs
-      ends-inside m e = subst (λ (z : ℕ). start + z ≤ length xs) (sym e) fits
+      pub ends_inside : (m : ℕ) → m ≡ p → start + m ≤ length xs
+      ends_inside m e = subst (λ (z : ℕ). start + z ≤ length xs) (sym e) fits
 
-      pub own-inside : (l : ℕ) → l ≡ q → from + l ≤ length ns
-      own-inside l o = subst (λ (z : ℕ). from + z ≤ length ns) (sym o) (inner from q (serialsTogether more) (length ns) own)
+      pub own_inside : (l : ℕ) → l ≡ q → from + l ≤ length ns
+      own_inside l o = subst (λ (z : ℕ). from + z ≤ length ns) (sym o) (inner from q (serials_together more) (length ns) own)
 
       module _ (m l : ℕ) (e : m ≡ p) (o : l ≡ q) (r : Answer) (ys : List ℕ) where
         abbrev Next : ℕ → ℕ → ℕ → Type 0
@@ -197,9 +197,9 @@ module _ (code : ℕ) (b : Board) (ns xs₀ : List ℕ) (n : ℕ) where
             subst (λ (z : ℕ). Next (start + m - start) z l) (sym e)
             (subst (λ (z : ℕ). Next (start + m - start) p z) (sym o)
             (subst (λ (z : ℕ). Next z p q) (sym (back start m p e))
-            (going_next r.state ys (told-state its code r ys lent-so) (told_array its code r ys lent-so))))
+            (going_next r.state ys (told_state its code r ys lent_so) (told_array its code r ys lent_so))))
           where
-            lent-so : EventPromise (take q (drop from ns)) (take p (drop start xs)) s code r ys
-            lent-so =
+            lent_so : EventPromise (take q (drop from ns)) (take p (drop start xs)) s code r ys
+            lent_so =
                 subst (λ (z : ℕ). EventPromise (take q (drop from ns)) (take z (drop start xs)) s code r ys) (back start m p e)
                 (subst (λ (z : ℕ). EventPromise (take z (drop from ns)) (take (start + m - start) (drop start xs)) s code r ys) (back from l q o) told)

@@ -5,116 +5,116 @@ use Rattle.laws.specs.TestLaws.{both, left, right}
 use Rattle.pins.specs.Sound.{sound}
 use Rattle.pins.specs.declared.state.State.{State}
 use Rattle.chip.specs.Run.{Chip}
-use Rattle.chip.specs.RunLaws.{next-sound}
-use Rattle.board.specs.Chips.{fitted, together, serialsTogether, pieces, states, slice, withChips}
-use Rattle.board.specs.Checks.{isOwn, noBoard, allSound, checks}
-use Rattle.board.specs.CheckLaws.{few, checks-passed}
+use Rattle.chip.specs.RunLaws.{next_sound}
+use Rattle.board.specs.Chips.{fitted, together, serials_together, pieces, states, slice, with_chips}
+use Rattle.board.specs.Checks.{is_own, no_board, all_sound, checks}
+use Rattle.board.specs.CheckLaws.{few, checks_passed}
 use Rattle.board.specs.Event as event
 use Rattle.board.specs.Event.{every, at, moved}
-use Rattle.board.specs.EventLaws.{event-refused, event-left, by-checks, many-pieces, many-every, many-at, many-states, fitted-with}
-use Rattle.board.specs.FitLaws.{Fit, again, pieces-fit, every-fits, at-fits, long-fit}
-use Rattle.board.specs.PieceLaws.{states-of}
-use Rattle.board.specs.Run.{Held, chips, Sent, refusalOf, next}
+use Rattle.board.specs.EventLaws.{event_refused, event_left, by_checks, many_pieces, many_every, many_at, many_states, fitted_with}
+use Rattle.board.specs.FitLaws.{Fit, again, pieces_fit, every_fits, at_fits, long_fit}
+use Rattle.board.specs.PieceLaws.{states_of}
+use Rattle.board.specs.Run.{Held, chips, Sent, refusal_of, next}
 use Rattle.board.specs.declared.chips.Board.{Board}
 
 -- only 14, 5, 6 and 7 can come
 pub record Good (h : Held) : Type 0 where
   pub eight : length h.board.chips ≡ 8
-  pub some : noBoard h.board.count ≡ false
-  pub sound : allSound (fitted h.board) ≡ true
+  pub some : no_board h.board.count ≡ false
+  pub sound : all_sound (fitted h.board) ≡ true
   pub long : together (fitted h.board) ≡ length h.slice
-  pub numbered : serialsTogether (fitted h.board) ≡ length h.serials
+  pub numbered : serials_together (fitted h.board) ≡ length h.serials
 
-abbrev pub lateChecks : ℕ → ℕ → ℕ → ℕ
-lateChecks count k code = cond (isOwn code && leb count k) 14 (cond (leb 12 code) 5 0)
+abbrev pub late_checks : ℕ → ℕ → ℕ → ℕ
+late_checks count k code = cond (is_own code && leb count k) 14 (cond (leb 12 code) 5 0)
 
-pub good-checks :
+pub good_checks :
     (h : Held) (k code : ℕ) → Good h
-    → checks h.board (length h.slice) (length h.serials) k code ≡ lateChecks h.board.count k code
+    → checks h.board (length h.slice) (length h.serials) k code ≡ late_checks h.board.count k code
 unfolding checks
-good-checks h k code g = rw (g.some, g.sound, eq-eqb _ _ (sym g.long), eq-eqb _ _ (sym g.numbered))
+good_checks h k code g = rw (g.some, g.sound, eq-eqb _ _ (sym g.long), eq-eqb _ _ (sym g.numbered))
 
 -- what is left on a board: these chips
 abbrev pub put : Held → List Chip → Held
-put h cs = record { board = withChips h.board cs; slice = slice cs; serials = h.serials }
+put h cs = record { board = with_chips h.board cs; slice = slice cs; serials = h.serials }
 
 module _ (h : Held) (e : Sent) where
-  pub next-stays : eqb (refusalOf h e) 0 ≡ false → next h e ≡ h
+  pub next_stays : eqb (refusal_of h e) 0 ≡ false → next h e ≡ h
   unfolding next
-  next-stays r = λ i. record { board = (out i).board; slice = (out i).slice; serials = h.serials }
+  next_stays r = λ i. record { board = (out i).board; slice = (out i).slice; serials = h.serials }
     where
-      out : event.event h.serials h.slice h.board e.chip e.code ≡ event.refused (refusalOf h e) h.board h.slice
-      out = event-refused h.serials h.slice h.board e.chip e.code r
+      out : event.event h.serials h.slice h.board e.chip e.code ≡ event.refused (refusal_of h e) h.board h.slice
+      out = event_refused h.serials h.slice h.board e.chip e.code r
 
-  pub next-put : refusalOf h e ≡ 0 → next h e ≡ put h (moved e.chip e.code (chips h))
+  pub next_put : refusal_of h e ≡ 0 → next h e ≡ put h (moved e.chip e.code (chips h))
   unfolding next
-  next-put r = λ i. record { board = (out i).board; slice = (out i).slice; serials = h.serials }
+  next_put r = λ i. record { board = (out i).board; slice = (out i).slice; serials = h.serials }
     where
       out : event.event h.serials h.slice h.board e.chip e.code ≡ event.left h.board (moved e.chip e.code (chips h))
-      out = event-left h.serials h.slice h.board e.chip e.code r
+      out = event_left h.serials h.slice h.board e.chip e.code r
 
   -- an accepted event passed the checks
-  pub accepted-passed : refusalOf h e ≡ 0 → checks h.board (length h.slice) (length h.serials) e.chip e.code ≡ 0
-  accepted-passed r = go (eqb (checks h.board (length h.slice) (length h.serials) e.chip e.code) 0) refl
+  pub accepted_passed : refusal_of h e ≡ 0 → checks h.board (length h.slice) (length h.serials) e.chip e.code ≡ 0
+  accepted_passed r = go (eqb (checks h.board (length h.slice) (length h.serials) e.chip e.code) 0) refl
     where
       go :
           (t : Bool) → eqb (checks h.board (length h.slice) (length h.serials) e.chip e.code) 0 ≡ t
           → checks h.board (length h.slice) (length h.serials) e.chip e.code ≡ 0
       go true p = eqb-true _ _ p
-      go false p = sym (by-checks h.serials h.slice h.board e.chip e.code p) ∙ r
+      go false p = sym (by_checks h.serials h.slice h.board e.chip e.code p) ∙ r
 
 -- every chip sound, every chip in its place
-sounds-every : (code : ℕ) (cs : List Chip) → allSound (states cs) ≡ true → allSound (states (every code cs)) ≡ true
-unfolding states every allSound
-sounds-every code [] s = refl
-sounds-every code (c ∷ cs) s =
-    both (next-sound c code (left (sound c.state) (allSound (states cs)) s)) (sounds-every code cs (right (sound c.state) (allSound (states cs)) s))
+sounds_every : (code : ℕ) (cs : List Chip) → all_sound (states cs) ≡ true → all_sound (states (every code cs)) ≡ true
+unfolding states every all_sound
+sounds_every code [] s = refl
+sounds_every code (c ∷ cs) s =
+    both (next_sound c code (left (sound c.state) (all_sound (states cs)) s)) (sounds_every code cs (right (sound c.state) (all_sound (states cs)) s))
 
-sounds-at : (k code : ℕ) (cs : List Chip) → allSound (states cs) ≡ true → allSound (states (at k code cs)) ≡ true
-unfolding states at allSound
-sounds-at k code [] s = refl
-sounds-at zero code (c ∷ cs) s =
-    both (next-sound c code (left (sound c.state) (allSound (states cs)) s)) (right (sound c.state) (allSound (states cs)) s)
-sounds-at (suc k) code (c ∷ cs) s =
-    both (left (sound c.state) (allSound (states cs)) s) (sounds-at k code cs (right (sound c.state) (allSound (states cs)) s))
+sounds_at : (k code : ℕ) (cs : List Chip) → all_sound (states cs) ≡ true → all_sound (states (at k code cs)) ≡ true
+unfolding states at all_sound
+sounds_at k code [] s = refl
+sounds_at zero code (c ∷ cs) s =
+    both (next_sound c code (left (sound c.state) (all_sound (states cs)) s)) (right (sound c.state) (all_sound (states cs)) s)
+sounds_at (suc k) code (c ∷ cs) s =
+    both (left (sound c.state) (all_sound (states cs)) s) (sounds_at k code cs (right (sound c.state) (all_sound (states cs)) s))
 
 -- chips that are put on a board are there
 module _ (h : Held) (cs : List Chip) (many : length cs ≡ h.board.count) where
   abbrev b : Board
   b = h.board
 
-  pub put-chips : Fit h.serials cs → chips (put h cs) ≡ cs
-  put-chips fits = ap (λ (ss : List State). pieces ss (slice cs) h.serials) (fitted-with b cs many) ∙ again h.serials cs fits
+  pub put_chips : Fit h.serials cs → chips (put h cs) ≡ cs
+  put_chips fits = ap (λ (ss : List State). pieces ss (slice cs) h.serials) (fitted_with b cs many) ∙ again h.serials cs fits
 
-  put-places : b.count ≤ 8 → length b.chips ≡ 8 → length (withChips b cs).chips ≡ 8
-  put-places few eight =
+  put_places : b.count ≤ 8 → length b.chips ≡ 8 → length (with_chips b cs).chips ≡ 8
+  put_places few eight =
       length-append (states cs) (drop b.count b.chips)
-      ∙ ap (λ (n : ℕ). n + length (drop b.count b.chips)) (many-states cs ∙ many)
+      ∙ ap (λ (n : ℕ). n + length (drop b.count b.chips)) (many_states cs ∙ many)
       ∙ total b.count (length b.chips) _ few eight (length-drop b.count b.chips)
     where
       total : (n m r : ℕ) → n ≤ 8 → m ≡ 8 → r ≡ m - n → n + r ≡ 8
       total n m r f e d = omega (arith, f, e, d)
 
-  pub put-put : (ds : List Chip) → put (put h cs) ds ≡ put h ds
-  put-put ds = λ i.
+  pub put_put : (ds : List Chip) → put (put h cs) ds ≡ put h ds
+  put_put ds = λ i.
       record {
         board =
             record {
               count = b.count;
-              chips = states ds ++ drop_at (states cs) (drop b.count b.chips) b.count (many-states cs ∙ many) i;
+              chips = states ds ++ drop_at (states cs) (drop b.count b.chips) b.count (many_states cs ∙ many) i;
             };
         slice = slice ds;
         serials = h.serials;
       }
 
-  pub good-put : noBoard b.count ≡ false → length b.chips ≡ 8 → Fit h.serials cs → allSound (states cs) ≡ true → Good (put h cs)
-  good-put some eight fits s =
+  pub good_put : no_board b.count ≡ false → length b.chips ≡ 8 → Fit h.serials cs → all_sound (states cs) ≡ true → Good (put h cs)
+  good_put some eight fits s =
       record {
-        eight = put-places (few b.count some) eight;
+        eight = put_places (few b.count some) eight;
         some = some;
-        sound = ap allSound (fitted-with b cs many) ∙ s;
-        long = ap together (fitted-with b cs many) ∙ (long-fit h.serials cs fits).0;
-        numbered = ap serialsTogether (fitted-with b cs many) ∙ (long-fit h.serials cs fits).1;
+        sound = ap all_sound (fitted_with b cs many) ∙ s;
+        long = ap together (fitted_with b cs many) ∙ (long_fit h.serials cs fits).0;
+        numbered = ap serials_together (fitted_with b cs many) ∙ (long_fit h.serials cs fits).1;
       }
 
 -- the chips of a good board, moved
@@ -123,53 +123,53 @@ module _ (h : Held) (g : Good h) where
   places = subst (λ (n : ℕ). h.board.count ≤ n) (sym g.eight) (few h.board.count g.some)
 
   pub many : length (chips h) ≡ h.board.count
-  many = many-pieces (fitted h.board) h.slice h.serials ∙ length-take-le h.board.count h.board.chips places
+  many = many_pieces (fitted h.board) h.slice h.serials ∙ length-take-le h.board.count h.board.chips places
 
   fit : Fit h.serials (chips h)
-  fit = pieces-fit (fitted h.board) h.slice h.serials g.long g.numbered
+  fit = pieces_fit (fitted h.board) h.slice h.serials g.long g.numbered
 
-  sounds : allSound (states (chips h)) ≡ true
-  sounds = ap allSound (states-of (fitted h.board) h.slice h.serials) ∙ g.sound
+  sounds : all_sound (states (chips h)) ≡ true
+  sounds = ap all_sound (states_of (fitted h.board) h.slice h.serials) ∙ g.sound
 
-  pub many-moved : (k code : ℕ) → length (moved k code (chips h)) ≡ h.board.count
-  many-moved k code = go (isOwn code)
+  pub many_moved : (k code : ℕ) → length (moved k code (chips h)) ≡ h.board.count
+  many_moved k code = go (is_own code)
     where
       go : (t : Bool) → length (cond t (at k code (chips h)) (every code (chips h))) ≡ h.board.count
-      go true = many-at k code (chips h) ∙ many
-      go false = many-every code (chips h) ∙ many
+      go true = many_at k code (chips h) ∙ many
+      go false = many_every code (chips h) ∙ many
 
-  fit-moved : (k code : ℕ) → Fit h.serials (moved k code (chips h))
-  fit-moved k code = go (isOwn code)
+  fit_moved : (k code : ℕ) → Fit h.serials (moved k code (chips h))
+  fit_moved k code = go (is_own code)
     where
       go : (t : Bool) → Fit h.serials (cond t (at k code (chips h)) (every code (chips h)))
-      go true = at-fits h.serials k code (chips h) fit
-      go false = every-fits h.serials code (chips h) fit
+      go true = at_fits h.serials k code (chips h) fit
+      go false = every_fits h.serials code (chips h) fit
 
-  sounds-moved : (k code : ℕ) → allSound (states (moved k code (chips h))) ≡ true
-  sounds-moved k code = go (isOwn code)
+  sounds_moved : (k code : ℕ) → all_sound (states (moved k code (chips h))) ≡ true
+  sounds_moved k code = go (is_own code)
     where
-      go : (t : Bool) → allSound (states (cond t (at k code (chips h)) (every code (chips h)))) ≡ true
-      go true = sounds-at k code (chips h) sounds
-      go false = sounds-every code (chips h) sounds
+      go : (t : Bool) → all_sound (states (cond t (at k code (chips h)) (every code (chips h)))) ≡ true
+      go true = sounds_at k code (chips h) sounds
+      go false = sounds_every code (chips h) sounds
 
-  pub moved-chips : (e : Sent) → refusalOf h e ≡ 0 → chips (next h e) ≡ moved e.chip e.code (chips h)
-  moved-chips e r =
-      ap chips (next-put h e r)
-      ∙ put-chips h (moved e.chip e.code (chips h)) (many-moved e.chip e.code) (fit-moved e.chip e.code)
+  pub moved_chips : (e : Sent) → refusal_of h e ≡ 0 → chips (next h e) ≡ moved e.chip e.code (chips h)
+  moved_chips e r =
+      ap chips (next_put h e r)
+      ∙ put_chips h (moved e.chip e.code (chips h)) (many_moved e.chip e.code) (fit_moved e.chip e.code)
 
   -- accepted or refused, a good board stays good
-  pub good-next : (e : Sent) → Good (next h e)
-  good-next e = go (eqb (refusalOf h e) 0) refl
+  pub good_next : (e : Sent) → Good (next h e)
+  good_next e = go (eqb (refusal_of h e) 0) refl
     where
-      go : (t : Bool) → eqb (refusalOf h e) 0 ≡ t → Good (next h e)
+      go : (t : Bool) → eqb (refusal_of h e) 0 ≡ t → Good (next h e)
       go true p =
-          subst Good (sym (next-put h e (eqb-true _ _ p)))
-          (good-put h (moved e.chip e.code (chips h)) (many-moved e.chip e.code) g.some g.eight
-          (fit-moved e.chip e.code) (sounds-moved e.chip e.code))
-      go false p = subst Good (sym (next-stays h e p)) g
+          subst Good (sym (next_put h e (eqb-true _ _ p)))
+          (good_put h (moved e.chip e.code (chips h)) (many_moved e.chip e.code) g.some g.eight
+          (fit_moved e.chip e.code) (sounds_moved e.chip e.code))
+      go false p = subst Good (sym (next_stays h e p)) g
 
 -- a board that an event was accepted on is good
-pub good-from : (h : Held) (e : Sent) → length h.board.chips ≡ 8 → refusalOf h e ≡ 0 → Good h
-good-from h e eight r =
-    let passed = checks-passed h.board (length h.slice) (length h.serials) e.chip e.code (accepted-passed h e r) in
+pub good_from : (h : Held) (e : Sent) → length h.board.chips ≡ 8 → refusal_of h e ≡ 0 → Good h
+good_from h e eight r =
+    let passed = checks_passed h.board (length h.slice) (length h.serials) e.chip e.code (accepted_passed h e r) in
     record { eight = eight; some = passed.some; sound = passed.sound; long = passed.long; numbered = passed.numbered }

@@ -13,9 +13,9 @@ abbrev pub lent : State → List ℕ → ℕ → ℕ → List ℕ → ℕ → �
 lent s xs a p ns o q = record { state = s; array = take p (drop a xs); serial = take q (drop o ns) }
 
 module _ (c : Chip) (code : ℕ) (r : Answer) (ys : List ℕ) (told : EventPromise c.serial c.array c.state code r ys) where
-  pub told-state : (next c code).state ≡ r.state
+  pub told_state : (next c code).state ≡ r.state
   unfolding next
-  told-state = sym (ap (λ (q : Paper). q.state) told.0)
+  told_state = sym (ap (λ (q : Paper). q.state) told.0)
 
   pub told_array : (next c code).array ≡ ys
   unfolding next

@@ -13,22 +13,22 @@ use Rattle.chip.specs.Event as chip
 use Rattle.chip.specs.Promises.{EventPromise}
 use Rattle.chip.specs.Run.{Chip, next}
 use Rattle.chip.specs.declared.event.Answer.{Answer}
-use Rattle.board.specs.Chips.{pieceLength, serialLength, sum, together, serialsTogether, pieces, states, slice}
-use Rattle.board.specs.Event.{at, refusalAt}
-use Rattle.board.specs.LentLaws.{lent, told-state, told_array}
-use Rattle.board.specs.PieceLaws.{states-of, slice_of, rest-long, piece_inside}
+use Rattle.board.specs.Chips.{piece_length, serial_length, sum, together, serials_together, pieces, states, slice}
+use Rattle.board.specs.Event.{at, refusal_at}
+use Rattle.board.specs.LentLaws.{lent, told_state, told_array}
+use Rattle.board.specs.PieceLaws.{states_of, slice_of, rest_long, piece_inside}
 
 abbrev pub array : State → ℕ
-array s = pieceLength s.part
+array s = piece_length s.part
 
 abbrev pub serial : State → ℕ
-serial s = serialLength s.part
+serial s = serial_length s.part
 
 -- "an own line moves one chip and nothing of any other, bytes included": chip k, over its pieces
 module _ (code : ℕ) (d : State) where
-  abbrev chipAt : List State → List ℕ → List ℕ → ℕ → Chip
-  chipAt ss xs ns k =
-      lent (get_or ss k d) xs (together (take k ss)) (pieceLength (get_or ss k d).part) ns (serialsTogether (take k ss)) (serialLength (get_or ss k d).part)
+  abbrev chip_at : List State → List ℕ → List ℕ → ℕ → Chip
+  chip_at ss xs ns k =
+      lent (get_or ss k d) xs (together (take k ss)) (piece_length (get_or ss k d).part) ns (serials_together (take k ss)) (serial_length (get_or ss k d).part)
 
   nowhere : {A : Type 0} (k : ℕ) → k < 0 → A
   nowhere k h = absurd (eqb-false 0 1 refl (omega (arith, h)))
@@ -36,74 +36,74 @@ module _ (code : ℕ) (d : State) where
   -- counted from the second chip on, it is chip k of those
   module _ (s : State) (ss : List State) (xs ns : List ℕ) where
     abbrev ys : List ℕ
-    ys = drop (pieceLength s.part) xs
+    ys = drop (piece_length s.part) xs
 
     abbrev ms : List ℕ
-    ms = drop (serialLength s.part) ns
+    ms = drop (serial_length s.part) ns
 
-    later : (k : ℕ) → chipAt ss ys ms k ≡ chipAt (s ∷ ss) xs ns (suc k)
+    later : (k : ℕ) → chip_at ss ys ms k ≡ chip_at (s ∷ ss) xs ns (suc k)
     unfolding sum
     later k = λ i.
         record {
           state = get_or ss k d;
-          array = take (pieceLength (get_or ss k d).part) (drop-drop (together (take k ss)) (pieceLength s.part) xs i);
-          serial = take (serialLength (get_or ss k d).part) (drop-drop (serialsTogether (take k ss)) (serialLength s.part) ns i);
+          array = take (piece_length (get_or ss k d).part) (drop-drop (together (take k ss)) (piece_length s.part) xs i);
+          serial = take (serial_length (get_or ss k d).part) (drop-drop (serials_together (take k ss)) (serial_length s.part) ns i);
         }
 
   one_state :
       (ss : List State) (xs ns : List ℕ) (k : ℕ) → k < length ss
-      → states (at k code (pieces ss xs ns)) ≡ set ss k (next (chipAt ss xs ns k) code).state
+      → states (at k code (pieces ss xs ns)) ≡ set ss k (next (chip_at ss xs ns k) code).state
   unfolding states at pieces sum
   one_state [] xs ns k h = nowhere k h
   one_state (s ∷ ss) xs ns zero h =
-      ap (λ (more : List State). (next (chipAt (s ∷ ss) xs ns 0) code).state ∷ more) (states-of ss (ys s ss xs ns) (ms s ss xs ns))
+      ap (λ (more : List State). (next (chip_at (s ∷ ss) xs ns 0) code).state ∷ more) (states_of ss (ys s ss xs ns) (ms s ss xs ns))
   one_state (s ∷ ss) xs ns (suc k) h =
       ap (λ (more : List State). s ∷ more)
       (one_state ss (ys s ss xs ns) (ms s ss xs ns) k (omega (arith, h))
       ∙ ap (λ (c : Chip). set ss k (next c code).state) (later s ss xs ns k))
 
-  one-refusal :
+  one_refusal :
       (ss : List State) (xs ns : List ℕ) (k : ℕ) → k < length ss
-      → refusalAt k code (pieces ss xs ns) ≡ (chip.event (chipAt ss xs ns k).serial (chipAt ss xs ns k).array (get_or ss k d) code).refusal
-  unfolding refusalAt pieces sum
-  one-refusal [] xs ns k h = nowhere k h
-  one-refusal (s ∷ ss) xs ns zero h = refl
-  one-refusal (s ∷ ss) xs ns (suc k) h =
-      one-refusal ss (ys s ss xs ns) (ms s ss xs ns) k (omega (arith, h))
+      → refusal_at k code (pieces ss xs ns) ≡ (chip.event (chip_at ss xs ns k).serial (chip_at ss xs ns k).array (get_or ss k d) code).refusal
+  unfolding refusal_at pieces sum
+  one_refusal [] xs ns k h = nowhere k h
+  one_refusal (s ∷ ss) xs ns zero h = refl
+  one_refusal (s ∷ ss) xs ns (suc k) h =
+      one_refusal ss (ys s ss xs ns) (ms s ss xs ns) k (omega (arith, h))
       ∙ ap (λ (c : Chip). (chip.event c.serial c.array c.state code).refusal) (later s ss xs ns k)
 
   -- all bytes, with chip k's piece as it left it
   abbrev put_at : List State → List ℕ → List ℕ → ℕ → List ℕ
   put_at ss xs ns k =
       take (together (take k ss)) xs
-      ++ ((next (chipAt ss xs ns k) code).array ++ drop (pieceLength (get_or ss k d).part) (drop (together (take k ss)) xs))
+      ++ ((next (chip_at ss xs ns k) code).array ++ drop (piece_length (get_or ss k d).part) (drop (together (take k ss)) xs))
 
-  one-bytes :
+  one_bytes :
       (ss : List State) (xs ns : List ℕ) (k : ℕ) → k < length ss → together ss ≡ length xs
       → slice (at k code (pieces ss xs ns)) ≡ put_at ss xs ns k
   unfolding slice at pieces sum
-  one-bytes [] xs ns k h e = nowhere k h
-  one-bytes (s ∷ ss) xs ns zero h e =
-      ap (λ (more : List ℕ). (next (chipAt (s ∷ ss) xs ns 0) code).array ++ more)
-      (slice_of ss (ys s ss xs ns) (ms s ss xs ns) (rest-long (pieceLength s.part) (together ss) xs e))
-  one-bytes (s ∷ ss) xs ns (suc k) h e =
-      ap (λ (more : List ℕ). take p xs ++ more) (one-bytes ss (drop p xs) (ms s ss xs ns) k (omega (arith, h)) (rest-long p (together ss) xs e))
+  one_bytes [] xs ns k h e = nowhere k h
+  one_bytes (s ∷ ss) xs ns zero h e =
+      ap (λ (more : List ℕ). (next (chip_at (s ∷ ss) xs ns 0) code).array ++ more)
+      (slice_of ss (ys s ss xs ns) (ms s ss xs ns) (rest_long (piece_length s.part) (together ss) xs e))
+  one_bytes (s ∷ ss) xs ns (suc k) h e =
+      ap (λ (more : List ℕ). take p xs ++ more) (one_bytes ss (drop p xs) (ms s ss xs ns) k (omega (arith, h)) (rest_long p (together ss) xs e))
       ∙ sym (append_assoc (take p xs) (take a (drop p xs)) ((next its code).array ++ drop q (drop a (drop p xs))))
       ∙ ap (λ (front : List ℕ). front ++ ((next its code).array ++ drop q (drop a (drop p xs)))) (sym (take-add p a xs))
       ∙ ap (λ (c : Chip). take (p + a) xs ++ ((next c code).array ++ drop q (drop a (drop p xs)))) (later s ss xs ns k)
-      ∙ ap (λ (zs : List ℕ). take (p + a) xs ++ ((next (chipAt (s ∷ ss) xs ns (suc k)) code).array ++ drop q zs)) (drop-drop a p xs)
+      ∙ ap (λ (zs : List ℕ). take (p + a) xs ++ ((next (chip_at (s ∷ ss) xs ns (suc k)) code).array ++ drop q zs)) (drop-drop a p xs)
     where
       p : ℕ
-      p = pieceLength s.part
+      p = piece_length s.part
 
       a : ℕ
       a = together (take k ss)
 
       q : ℕ
-      q = pieceLength (get_or ss k d).part
+      q = piece_length (get_or ss k d).part
 
       its : Chip
-      its = chipAt ss (drop p xs) (ms s ss xs ns) k
+      its = chip_at ss (drop p xs) (ms s ss xs ns) k
 
 -- as the code has it: among the first n places
 module _ (d : State) (L : List State) (n k : ℕ) (places : n ≤ length L) (h : k < n) where
@@ -113,8 +113,8 @@ module _ (d : State) (L : List State) (n k : ℕ) (places : n ≤ length L) (h :
   there : k < length (take n L)
   there = subst (λ (m : ℕ). k < m) (sym (length-take-le n L places)) h
 
-  the-state : get_or (take n L) k d ≡ own
-  the-state = get_or-take n L k d h
+  the_state : get_or (take n L) k d ≡ own
+  the_state = get_or-take n L k d h
 
   -- a piece, of the slice or of the serials, begins at start and ends at start + m
   module _ (f : State → ℕ) (start m : ℕ) (p : start ≡ sum f (take k L)) (q : m ≡ f own) where
@@ -131,7 +131,7 @@ module _ (d : State) (L : List State) (n k : ℕ) (places : n ≤ length L) (h :
     one_inside len long =
         subst (λ (t : ℕ). start + m ≤ t) long
         (subst (λ (t : ℕ). t + m ≤ sum f (take n L)) begins
-        (subst (λ (t : ℕ). sum f (take k (take n L)) + t ≤ sum f (take n L)) (ap f the-state ∙ sym q) (piece_inside f (take n L) k d there)))
+        (subst (λ (t : ℕ). sum f (take k (take n L)) + t ≤ sum f (take n L)) (ap f the_state ∙ sym q) (piece_inside f (take n L) k d there)))
 
   -- the places behind the chips stay
   set_there : (t : State) → set (take n L) k t ++ drop n L ≡ set L k t
@@ -141,29 +141,29 @@ module _ (d : State) (L : List State) (n k : ℕ) (places : n ≤ length L) (h :
       ∙ take-append-drop n (set L k t)
 
   module _ (code : ℕ) (xs ns : List ℕ) (start m from l : ℕ)
-      (p : start ≡ together (take k L)) (q : m ≡ pieceLength own.part)
-      (o : from ≡ serialsTogether (take k L)) (u : l ≡ serialLength own.part) where
+      (p : start ≡ together (take k L)) (q : m ≡ piece_length own.part)
+      (o : from ≡ serials_together (take k L)) (u : l ≡ serial_length own.part) where
     abbrev its : Chip
     its = lent own xs start (start + m - start) ns from (from + l - from)
 
-    same-chip : chipAt code d (take n L) xs ns k ≡ its
-    same-chip =
-        ap (λ (t : State). lent t xs (together (take k (take n L))) (pieceLength t.part) ns (serialsTogether (take k (take n L))) (serialLength t.part))
-        the-state
+    same_chip : chip_at code d (take n L) xs ns k ≡ its
+    same_chip =
+        ap (λ (t : State). lent t xs (together (take k (take n L))) (piece_length t.part) ns (serials_together (take k (take n L))) (serial_length t.part))
+        the_state
         ∙ (λ i. lent own xs (begins array start m p q i) (lasts array start m p q i) ns (begins serial from l o u i) (lasts serial from l o u i))
 
     module _ (r : Answer) (ys : List ℕ) (told : EventPromise its.serial its.array own code r ys) where
-      pub one-refused : r.refusal ≡ refusalAt k code (pieces (take n L) xs ns)
-      one-refused =
+      pub one_refused : r.refusal ≡ refusal_at k code (pieces (take n L) xs ns)
+      one_refused =
           ap (λ (a : Paper). a.refusal) told.0
-          ∙ sym (ap (λ (c : Chip). (chip.event c.serial c.array c.state code).refusal) same-chip)
-          ∙ sym (one-refusal code d (take n L) xs ns k there)
+          ∙ sym (ap (λ (c : Chip). (chip.event c.serial c.array c.state code).refusal) same_chip)
+          ∙ sym (one_refusal code d (take n L) xs ns k there)
 
-      pub one-moved : set L k r.state ≡ states (at k code (pieces (take n L) xs ns)) ++ drop n L
-      one-moved =
+      pub one_moved : set L k r.state ≡ states (at k code (pieces (take n L) xs ns)) ++ drop n L
+      one_moved =
           sym (set_there r.state)
           ∙ ap (λ (t : State). set (take n L) k t ++ drop n L)
-          (sym (told-state its code r ys told) ∙ sym (ap (λ (c : Chip). (next c code).state) same-chip))
+          (sym (told_state its code r ys told) ∙ sym (ap (λ (c : Chip). (next c code).state) same_chip))
           ∙ ap (λ (front : List State). front ++ drop n L) (sym (one_state code d (take n L) xs ns k there))
 
       pub one_written :
@@ -171,11 +171,11 @@ module _ (d : State) (L : List State) (n k : ℕ) (places : n ≤ length L) (h :
           → take start xs ++ (ys ++ drop (start + m - start) (drop start xs)) ≡ slice (at k code (pieces (take n L) xs ns))
       one_written long =
           ap (λ (zs : List ℕ). take start xs ++ (zs ++ drop (start + m - start) (drop start xs)))
-          (sym (told_array its code r ys told) ∙ sym (ap (λ (c : Chip). (next c code).array) same-chip))
+          (sym (told_array its code r ys told) ∙ sym (ap (λ (c : Chip). (next c code).array) same_chip))
           ∙ sym
           (λ i. take (begins array start m p q i) xs
-          ++ ((next (chipAt code d (take n L) xs ns k) code).array ++ drop (size i) (drop (begins array start m p q i) xs)))
-          ∙ sym (one-bytes code d (take n L) xs ns k there long)
+          ++ ((next (chip_at code d (take n L) xs ns k) code).array ++ drop (size i) (drop (begins array start m p q i) xs)))
+          ∙ sym (one_bytes code d (take n L) xs ns k there long)
         where
-          size : pieceLength (get_or (take n L) k d).part ≡ start + m - start
-          size = ap (λ (t : State). pieceLength t.part) the-state ∙ lasts array start m p q
+          size : piece_length (get_or (take n L) k d).part ≡ start + m - start
+          size = ap (λ (t : State). piece_length t.part) the_state ∙ lasts array start m p q

@@ -6,10 +6,10 @@ use Rattle.std.proofs.lemmas.Bool.{eqb-false}
 use borrow.Rule.Slice.PartMut.{same_len_mid}
 use Rattle.parts.specs.FigureLaws.{most}
 use Rattle.pins.specs.declared.state.State.{State}
-use Rattle.board.specs.Chips.{pieceLength, serialLength, sum, together, pieces, states, slice}
+use Rattle.board.specs.Chips.{piece_length, serial_length, sum, together, pieces, states, slice}
 
-pub still-small : (sum i n a : ℕ) → a ≤ most → sum ≤ most * i → n ≡ a → sum + n ≤ most * (i + 1)
-still-small sum i n a small h e = omega (arith, small, h, e)
+pub still_small : (sum i n a : ℕ) → a ≤ most → sum ≤ most * i → n ≡ a → sum + n ≤ most * (i + 1)
+still_small sum i n a small h e = omega (arith, small, h, e)
 
 pub part_length : (xs : List ℕ) (a p : ℕ) → a + p ≤ length xs → length (take p (drop a xs)) ≡ p
 part_length xs a p fits = length-take-le p (drop a xs) (subst (λ (n : ℕ). p ≤ n) (sym (length-drop a xs)) (omega (arith, fits)))
@@ -22,8 +22,8 @@ module _ (xs ys : List ℕ) (a p : ℕ) (fits : a + p ≤ length xs) (same : len
   before : length (take a xs) ≡ a
   before = length-take-le a xs (omega (arith, fits))
 
-  pub put-length : length put ≡ length xs
-  put-length = same_len_mid a p xs ys (same ∙ sym (part_length xs a p fits))
+  pub put_length : length put ≡ length xs
+  put_length = same_len_mid a p xs ys (same ∙ sym (part_length xs a p fits))
 
   front : length (take a xs ++ ys) ≡ a + p
   front = length-append (take a xs) ys ∙ ap (λ (n : ℕ). n + length ys) before ∙ ap (λ (n : ℕ). a + n) same
@@ -31,21 +31,21 @@ module _ (xs ys : List ℕ) (a p : ℕ) (fits : a + p ≤ length xs) (same : len
   split : put ≡ (take a xs ++ ys) ++ drop p (drop a xs)
   split = sym (append_assoc (take a xs) ys (drop p (drop a xs)))
 
-  pub put-take : take (a + p) put ≡ take a xs ++ ys
-  put-take = ap (take (a + p)) split ∙ take_at (take a xs ++ ys) (drop p (drop a xs)) (a + p) front
+  pub put_take : take (a + p) put ≡ take a xs ++ ys
+  put_take = ap (take (a + p)) split ∙ take_at (take a xs ++ ys) (drop p (drop a xs)) (a + p) front
 
-  pub put-drop : drop (a + p) put ≡ drop p (drop a xs)
-  put-drop = ap (drop (a + p)) split ∙ drop_at (take a xs ++ ys) (drop p (drop a xs)) (a + p) front
+  pub put_drop : drop (a + p) put ≡ drop p (drop a xs)
+  put_drop = ap (drop (a + p)) split ∙ drop_at (take a xs ++ ys) (drop p (drop a xs)) (a + p) front
 
 -- cut up and put together again, states and slice are what they were
-pub states-of : (ss : List State) (xs ns : List ℕ) → states (pieces ss xs ns) ≡ ss
+pub states_of : (ss : List State) (xs ns : List ℕ) → states (pieces ss xs ns) ≡ ss
 unfolding states pieces
-states-of [] xs ns = refl
-states-of (s ∷ ss) xs ns =
-    ap (λ (more : List State). s ∷ more) (states-of ss (drop (pieceLength s.part) xs) (drop (serialLength s.part) ns))
+states_of [] xs ns = refl
+states_of (s ∷ ss) xs ns =
+    ap (λ (more : List State). s ∷ more) (states_of ss (drop (piece_length s.part) xs) (drop (serial_length s.part) ns))
 
-pub rest-long : (p t : ℕ) (xs : List ℕ) → p + t ≡ length xs → t ≡ length (drop p xs)
-rest-long p t xs e = omega (arith, e, length-drop p xs)
+pub rest_long : (p t : ℕ) (xs : List ℕ) → p + t ≡ length xs → t ≡ length (drop p xs)
+rest_long p t xs e = omega (arith, e, length-drop p xs)
 
 pub none_left : (xs : List ℕ) → 0 ≡ length xs → [] ≡ xs
 none_left [] e = refl
@@ -55,11 +55,11 @@ pub slice_of : (ss : List State) (xs ns : List ℕ) → together ss ≡ length x
 unfolding slice pieces sum
 slice_of [] xs ns e = none_left xs e
 slice_of (s ∷ ss) xs ns e =
-    ap (λ (ys : List ℕ). take p xs ++ ys) (slice_of ss (drop p xs) (drop (serialLength s.part) ns) (rest-long p (together ss) xs e))
+    ap (λ (ys : List ℕ). take p xs ++ ys) (slice_of ss (drop p xs) (drop (serial_length s.part) ns) (rest_long p (together ss) xs e))
     ∙ take-append-drop p xs
   where
     p : ℕ
-    p = pieceLength s.part
+    p = piece_length s.part
 
 -- a chip's piece ends within all of them, of the slice and of the serials
 pub piece_inside : (f : State → ℕ) (ss : List State) (k : ℕ) (d : State) → k < length ss → sum f (take k ss) + f (get_or ss k d) ≤ sum f ss

@@ -1,11 +1,11 @@
 -- "Power-up: 13, 1, 2, 3, each over all chips." It "takes no serial" (Wish 8). Assumes nothing.
 use Rattle.std.specs.Prelude.{ℕ, Bool, true, false, cond, not, ◌&&◌, List, [], ◌∷◌, ◌++◌, eqb, length, take, drop, replicate}
-use Rattle.parts.specs.Figures.{isPart, inMask}
-use Rattle.pins.specs.Levels.{atRest}
+use Rattle.parts.specs.Figures.{is_part, in_mask}
+use Rattle.pins.specs.Levels.{at_rest}
 use Rattle.pins.specs.declared.state.State.{State}
 use Rattle.supply.specs.Power as chip
-use Rattle.board.specs.Chips.{pieceLength, sum}
-use Rattle.board.specs.Checks.{noBoard}
+use Rattle.board.specs.Chips.{piece_length, sum}
+use Rattle.board.specs.Checks.{no_board}
 use Rattle.board.specs.declared.power.Asked.{Asked}
 use Rattle.board.specs.declared.power.Plan.{Plan}
 use Rattle.board.specs.declared.power.PoweredBoard.{PoweredBoard}
@@ -14,38 +14,38 @@ use Rattle.board.specs.declared.power.PoweredBoard.{PoweredBoard}
 abbrev pub asked : Plan → List Asked
 asked p = take p.count p.chips
 
-unfoldable pub allParts : List Asked → Bool
-allParts [] = true
-allParts (a ∷ more) = isPart a.part && allParts more
+unfoldable pub all_parts : List Asked → Bool
+all_parts [] = true
+all_parts (a ∷ more) = is_part a.part && all_parts more
 
-abbrev pub togetherAsked : List Asked → ℕ
-togetherAsked qs = sum (λ a. pieceLength a.part) qs
+abbrev pub together_asked : List Asked → ℕ
+together_asked qs = sum (λ a. piece_length a.part) qs
 
-unfoldable pub allMasked : List Asked → Bool
-allMasked [] = true
-allMasked (a ∷ more) = inMask a.part a.kept && allMasked more
+unfoldable pub all_masked : List Asked → Bool
+all_masked [] = true
+all_masked (a ∷ more) = in_mask a.part a.kept && all_masked more
 
-unfoldable pub powerRefusal : Plan → ℕ → ℕ
-powerRefusal p len =
-    cond (noBoard p.count) 13
-    (cond (not (allParts (asked p))) 1
-    (cond (not (eqb len (togetherAsked (asked p)))) 2
-    (cond (not (allMasked (asked p))) 3
+unfoldable pub power_refusal : Plan → ℕ → ℕ
+power_refusal p len =
+    cond (no_board p.count) 13
+    (cond (not (all_parts (asked p))) 1
+    (cond (not (eqb len (together_asked (asked p)))) 2
+    (cond (not (all_masked (asked p))) 3
     0)))
 
 -- each chip's power-up, over its piece of the slice
 unfoldable pub powered : List Asked → List ℕ → List State
 powered [] xs = []
 powered (a ∷ more) xs =
-    (chip.powerUp a.part a.kept (take (pieceLength a.part) xs)).state
-    ∷ powered more (drop (pieceLength a.part) xs)
+    (chip.power_up a.part a.kept (take (piece_length a.part) xs)).state
+    ∷ powered more (drop (piece_length a.part) xs)
 
 -- "A refused power-up returns part 1 in the off state with kept bits 0": so is each place with no chip
 abbrev pub spare : List State
-spare = replicate 8 (atRest 1 0 false)
+spare = replicate 8 (at_rest 1 0 false)
 
-unfoldable pub powerUp : Plan → List ℕ → PoweredBoard
-powerUp p xs =
-    cond (eqb (powerRefusal p (length xs)) 0)
+unfoldable pub power_up : Plan → List ℕ → PoweredBoard
+power_up p xs =
+    cond (eqb (power_refusal p (length xs)) 0)
     (record { refusal = 0; board = record { count = p.count; chips = powered (asked p) xs ++ drop p.count spare } })
-    (record { refusal = powerRefusal p (length xs); board = record { count = 0; chips = spare } })
+    (record { refusal = power_refusal p (length xs); board = record { count = 0; chips = spare } })

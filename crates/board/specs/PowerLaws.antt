@@ -7,11 +7,11 @@ use Rattle.std.proofs.Math.ListN.{take, drop, take-append-drop}
 use Rattle.std.proofs.lemmas.Bool.{eqb-false}
 use Rattle.pins.specs.declared.state.State.{State}
 use Rattle.supply.specs.Power as chip
-use Rattle.board.specs.Chips.{pieceLength, sum}
-use Rattle.board.specs.Checks.{noBoard}
+use Rattle.board.specs.Chips.{piece_length, sum}
+use Rattle.board.specs.Checks.{no_board}
 use Rattle.board.specs.CheckLaws.{few}
-use Rattle.board.specs.Power.{asked, allParts, allMasked, togetherAsked, powerRefusal, powered, spare, powerUp}
-use Rattle.board.specs.WalkLaws.{rest, rest-next, rest-none, place-next, none-added, added}
+use Rattle.board.specs.Power.{asked, all_parts, all_masked, together_asked, power_refusal, powered, spare, power_up}
+use Rattle.board.specs.WalkLaws.{rest, rest_next, rest_none, place_next, none_added, added}
 use Rattle.board.specs.declared.power.Asked.{Asked}
 use Rattle.board.specs.declared.power.Plan.{Plan}
 
@@ -20,21 +20,21 @@ pub record Powering (p : Plan) (xs : List ℕ) (n : ℕ) (chips : List State) (s
   pub inside : i ≤ n
   pub places : n ≤ length p.chips
   pub few : n ≤ length chips
-  pub long : start + togetherAsked (rest i n p.chips) ≡ length xs
+  pub long : start + together_asked (rest i n p.chips) ≡ length xs
   pub states :
       take i chips ++ (powered (rest i n p.chips) (drop start xs) ++ drop n chips)
       ≡ powered (rest 0 n p.chips) xs ++ drop n spare
 
 module _ (p : Plan) (xs : List ℕ) (n : ℕ) where
-  pub powering-starts : n ≤ length p.chips → n ≤ 8 → togetherAsked (rest 0 n p.chips) ≡ length xs → Powering p xs n spare 0 0
-  powering-starts h k e = record { inside = zero-le; places = h; few = k; long = none-added _ ∙ e; states = refl }
+  pub powering_starts : n ≤ length p.chips → n ≤ 8 → together_asked (rest 0 n p.chips) ≡ length xs → Powering p xs n spare 0 0
+  powering_starts h k e = record { inside = zero-le; places = h; few = k; long = none_added _ ∙ e; states = refl }
 
   module _ (chips : List State) (start i : ℕ) (g : Powering p xs n chips start i) where
-    pub powering-ends : n ≤ i → chips ≡ powered (rest 0 n p.chips) xs ++ drop n spare
+    pub powering_ends : n ≤ i → chips ≡ powered (rest 0 n p.chips) xs ++ drop n spare
     unfolding powered
-    powering-ends h =
+    powering_ends h =
         sym (ap (λ (k : ℕ). take k chips ++ drop n chips) (le_antisymm g.inside h) ∙ take-append-drop n chips)
-        ∙ sym (ap (λ (qs : List Asked). take i chips ++ (powered qs (drop start xs) ++ drop n chips)) (rest-none p.chips n g.places i g.inside h))
+        ∙ sym (ap (λ (qs : List Asked). take i chips ++ (powered qs (drop start xs) ++ drop n chips)) (rest_none p.chips n g.places i g.inside h))
         ∙ g.states
 
     module _ (d : Asked) (h : i < n) where
@@ -42,20 +42,20 @@ module _ (p : Plan) (xs : List ℕ) (n : ℕ) where
       one = get_or p.chips i d
 
       abbrev size : ℕ
-      size = pieceLength one.part
+      size = piece_length one.part
 
       abbrev more : List Asked
       more = rest (i + 1) n p.chips
 
       on : rest i n p.chips ≡ one ∷ more
-      on = rest-next p.chips n g.places i d h
+      on = rest_next p.chips n g.places i d h
 
-      long : start + (size + togetherAsked more) ≡ length xs
+      long : start + (size + together_asked more) ≡ length xs
       unfolding sum
-      long = sym (ap (λ (qs : List Asked). start + togetherAsked qs) on) ∙ g.long
+      long = sym (ap (λ (qs : List Asked). start + together_asked qs) on) ∙ g.long
 
-      pub asked-inside : (m : ℕ) → m ≡ size → start + m ≤ length xs
-      asked-inside m e = inner start size (togetherAsked more) (length xs) m e long
+      pub asked_inside : (m : ℕ) → m ≡ size → start + m ≤ length xs
+      asked_inside m e = inner start size (together_asked more) (length xs) m e long
         where
           inner : (a q t n m : ℕ) → m ≡ q → a + (q + t) ≡ n → a + m ≤ n
           inner a q t n m e l = omega (arith, e, l)
@@ -71,16 +71,16 @@ module _ (p : Plan) (xs : List ℕ) (n : ℕ) where
             back : (a m q : ℕ) → m ≡ q → a + m - a ≡ q
             back a m q e = omega (arith, e)
 
-        pub powering-on :
-            r ≡ (chip.powerUp one.part one.kept (take k (drop start xs))).state
+        pub powering_on :
+            r ≡ (chip.power_up one.part one.kept (take k (drop start xs))).state
             → Powering p xs n (set chips i r) (start + m) (i + 1)
         unfolding powered
-        powering-on told =
+        powering_on told =
             record {
               inside = omega (arith, h);
               places = g.places;
               few = subst (λ (z : ℕ). n ≤ z) (sym (length-set chips i r)) g.few;
-              long = added start size (togetherAsked more) (length xs) m e long;
+              long = added start size (together_asked more) (length xs) m e long;
               states = put;
             }
           where
@@ -89,28 +89,28 @@ module _ (p : Plan) (xs : List ℕ) (n : ℕ) where
             put =
                 ap (λ (zs : List ℕ). take (i + 1) (set chips i r) ++ (powered more zs ++ drop n (set chips i r)))
                 (ap (λ (z : ℕ). drop (start + z) xs) e ∙ sym (drop-drop size start xs))
-                ∙ place-next chips (powered more (drop size (drop start xs))) n i r h (lt_of_lt_of_le h g.few)
+                ∙ place_next chips (powered more (drop size (drop start xs))) n i r h (lt_of_lt_of_le h g.few)
                 ∙ ap (λ (u : State). take i chips ++ (u ∷ (powered more (drop size (drop start xs)) ++ drop n chips)))
-                (told ∙ ap (λ (z : ℕ). (chip.powerUp one.part one.kept (take z (drop start xs))).state) as_lent)
+                (told ∙ ap (λ (z : ℕ). (chip.power_up one.part one.kept (take z (drop start xs))).state) as_lent)
                 ∙ sym (ap (λ (qs : List Asked). take i chips ++ (powered qs (drop start xs) ++ drop n chips)) on)
                 ∙ g.states
 
 -- what the refusals let through
 pub record Allowed (p : Plan) (len : ℕ) : Type 0 where
-  pub some : noBoard p.count ≡ false
+  pub some : no_board p.count ≡ false
   pub few : p.count ≤ 8
-  pub parts : allParts (asked p) ≡ true
-  pub long : togetherAsked (asked p) ≡ len
-  pub masked : allMasked (asked p) ≡ true
+  pub parts : all_parts (asked p) ≡ true
+  pub long : together_asked (asked p) ≡ len
+  pub masked : all_masked (asked p) ≡ true
 
-pub power-allowed : (p : Plan) (len : ℕ) → powerRefusal p len ≡ 0 → Allowed p len
-unfolding powerRefusal
-power-allowed p len =
-    go (noBoard p.count) (allParts (asked p)) (eqb len (togetherAsked (asked p))) (allMasked (asked p)) refl refl refl refl
+pub power_allowed : (p : Plan) (len : ℕ) → power_refusal p len ≡ 0 → Allowed p len
+unfolding power_refusal
+power_allowed p len =
+    go (no_board p.count) (all_parts (asked p)) (eqb len (together_asked (asked p))) (all_masked (asked p)) refl refl refl refl
   where
     go :
-        (n a e m : Bool) → noBoard p.count ≡ n → allParts (asked p) ≡ a → eqb len (togetherAsked (asked p)) ≡ e
-        → allMasked (asked p) ≡ m
+        (n a e m : Bool) → no_board p.count ≡ n → all_parts (asked p) ≡ a → eqb len (together_asked (asked p)) ≡ e
+        → all_masked (asked p) ≡ m
         → ◌≡◌ {A = ℕ} (cond n 13 (cond (not a) 1 (cond (not e) 2 (cond (not m) 3 0)))) 0 → Allowed p len
     go true a e m pn pa pe pm h = absurd (eqb-false 13 0 refl h)
     go false false e m pn pa pe pm h = absurd (eqb-false 1 0 refl h)

@@ -3,17 +3,17 @@
 use Rattle.std.specs.Prelude.{ℕ, List, [], ◌∷◌}
 use Rattle.select.specs.declared.notes.Level.{Level}
 use Rattle.select.specs.declared.notes.Level.TheVariants as level
-use Rattle.pins.specs.Levels.{soLevel}
+use Rattle.pins.specs.Levels.{so_level}
 use Rattle.pins.specs.declared.state.State.{State}
 use Rattle.board.specs.declared.so.BoardSo.{BoardSo}
 use Rattle.board.specs.declared.so.BoardSo.TheVariants.{Low, High, Released, Fight}
 
 -- "0, 1, or 2 for released" (Wish 1), and fight beside them
-abbrev pub soNumber : BoardSo → ℕ
-soNumber Low = 0
-soNumber High = 1
-soNumber Released = 2
-soNumber Fight = 3
+abbrev pub so_number : BoardSo → ℕ
+so_number Low = 0
+so_number High = 1
+so_number Released = 2
+so_number Fight = 3
 
 -- the levels of those that drive
 unfoldable pub driven : List Level → List Level
@@ -35,7 +35,7 @@ line (l ∷ m ∷ more) = Fight
 
 unfoldable pub levels : List State → List Level
 levels [] = []
-levels (s ∷ ss) = soLevel s ∷ levels ss
+levels (s ∷ ss) = so_level s ∷ levels ss
 
-unfoldable pub boardSo : List State → BoardSo
-boardSo ss = line (driven (levels ss))
+unfoldable pub board_so : List State → BoardSo
+board_so ss = line (driven (levels ss))

@@ -17,29 +17,29 @@ pub one_on : (k : ℕ) → suc k ≡ k + 1
 one_on k = omega arith
 
 module _ {A : Type 0} (l : List A) (n : ℕ) (fits : n ≤ length l) where
-  pub rest-next : (i : ℕ) (d : A) → i < n → rest i n l ≡ get_or l i d ∷ rest (i + 1) n l
-  rest-next i d h =
+  pub rest_next : (i : ℕ) (d : A) → i < n → rest i n l ≡ get_or l i d ∷ rest (i + 1) n l
+  rest_next i d h =
       drop-cons (take n l) i d (subst (λ (k : ℕ). i < k) (sym (length-take-le n l fits)) h)
       ∙ ap (λ (a : A). a ∷ rest (suc i) n l) (get_or-take n l i d h)
       ∙ ap (λ (k : ℕ). get_or l i d ∷ rest k n l) (one_on i)
 
-  pub rest-none : (i : ℕ) → i ≤ n → n ≤ i → rest i n l ≡ []
-  rest-none i p q =
+  pub rest_none : (i : ℕ) → i ≤ n → n ≤ i → rest i n l ≡ []
+  rest_none i p q =
       ap (λ (k : ℕ). drop k (take n l)) (le_antisymm p q ∙ sym (length-take-le n l fits)) ∙ drop-length (take n l)
 
   -- what is said of those that are left is said of the next one and those behind it; past the last one, of none
   module _ {B : Type 0} (g : List A → B) (i : ℕ) (w : B) (inv : g (rest i n l) ≡ w) where
-    pub walk-next : (d : A) → i < n → g (get_or l i d ∷ rest (i + 1) n l) ≡ w
-    walk-next d h = sym (ap g (rest-next i d h)) ∙ inv
+    pub walk_next : (d : A) → i < n → g (get_or l i d ∷ rest (i + 1) n l) ≡ w
+    walk_next d h = sym (ap g (rest_next i d h)) ∙ inv
 
     pub walk_none : i ≤ n → n ≤ i → g [] ≡ w
-    walk_none p q = sym (ap g (rest-none i p q)) ∙ inv
+    walk_none p q = sym (ap g (rest_none i p q)) ∙ inv
 
 -- place i put, and those behind it still to come
-pub place-next :
+pub place_next :
     {A : Type 0} (l more : List A) (n i : ℕ) (t : A) → i < n → i < length l
     → take (i + 1) (set l i t) ++ (more ++ drop n (set l i t)) ≡ take i l ++ (t ∷ (more ++ drop n l))
-place-next {A} l more n i t h k =
+place_next {A} l more n i t h k =
     ap (λ (q : List A). take (i + 1) (set l i t) ++ (more ++ q)) (drop-set-lt n l i t h)
     ∙ ap (λ (j : ℕ). take j (set l i t) ++ (more ++ drop n l)) (sym (one_on i))
     ∙ ap (λ (q : List A). q ++ (more ++ drop n l)) (take-suc-set l i t k)
@@ -55,11 +55,11 @@ failed true b w p e = cc
 failed false b w p e = e
 
 -- a sum of each: what is still to be added goes over to what is added
-pub none-added : (w : ℕ) → 0 + w ≡ w
-none-added w = omega arith
+pub none_added : (w : ℕ) → 0 + w ≡ w
+none_added w = omega arith
 
 pub added : (sum a b w n : ℕ) → n ≡ a → sum + (a + b) ≡ w → sum + n + b ≡ w
 added sum a b w n p e = omega (arith, p, e)
 
-pub all-added : (sum w : ℕ) → sum + 0 ≡ w → sum ≡ w
-all-added sum w e = omega (arith, e)
+pub all_added : (sum w : ℕ) → sum + 0 ≡ w → sum ≡ w
+all_added sum w e = omega (arith, e)

@@ -1,14 +1,14 @@
 // The refusals that are found before any chip moves.
 ghost use Rattle.std.specs.Prelude.{◌≡◌, ◌≤◌};
 ghost use Rattle.board.specs.Chips.{fitted};
-ghost use Rattle.board.specs.Checks.{isOwn, noBoard, allSound, checks};
+ghost use Rattle.board.specs.Checks.{is_own, no_board, all_sound, checks};
 
 use crate::chips::{Board, MOST, together};
 use pins::sound::sound;
 
 // Whether the code is one of a chip's own lines: /CS or /HOLD.
 pub(crate) fn is_own(code: u64) -> bool
-    ensures { result ≡ isOwn code }
+    ensures { result ≡ is_own code }
 {
     let pin = code / 2;
     (pin == 0) | (pin == 3)
@@ -16,14 +16,14 @@ pub(crate) fn is_own(code: u64) -> bool
 
 // Whether there are no chips or over eight.
 pub(crate) fn no_board(count: usize) -> bool
-    ensures { result ≡ noBoard count }
+    ensures { result ≡ no_board count }
 {
     (count == 0) | (MOST < count)
 }
 
 fn all_sound(board: Board) -> bool
     requires { board.count ≤ 8 }
-    ensures { result ≡ allSound (fitted board) }
+    ensures { result ≡ all_sound (fitted board) }
 {
     let count = board.count;
     let mut i = 0;

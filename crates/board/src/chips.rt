@@ -1,6 +1,6 @@
 // The board's chips, and the pieces of the lent slices that are theirs: their arrays, and their serial numbers.
 ghost use Rattle.std.specs.Prelude.{◌≡◌, ◌≤◌, take};
-ghost use Rattle.board.specs.Chips.{pieceLength, serialLength, serialsTogether, together};
+ghost use Rattle.board.specs.Chips.{piece_length, serial_length, serials_together, together};
 
 use parts::figures::figure_of;
 use pins::state::State;
@@ -25,7 +25,7 @@ pub(crate) struct Lengths {
 
 // A part's, by its number.
 pub(crate) fn part_lengths(part: u64) -> Lengths
-    ensures { (result.array ≡ pieceLength part) × (result.serials ≡ serialLength part) }
+    ensures { (result.array ≡ piece_length part) × (result.serials ≡ serial_length part) }
 {
     let f = figure_of(part);
     Lengths {
@@ -36,7 +36,7 @@ pub(crate) fn part_lengths(part: u64) -> Lengths
 
 // Those of a chip, by its state.
 pub(crate) fn lengths_of(state: State) -> Lengths
-    ensures { (result.array ≡ pieceLength state.part) × (result.serials ≡ serialLength state.part) }
+    ensures { (result.array ≡ piece_length state.part) × (result.serials ≡ serial_length state.part) }
 {
     part_lengths(state.part as u64)
 }
@@ -44,7 +44,7 @@ pub(crate) fn lengths_of(state: State) -> Lengths
 // How long the pieces of the first so many chips are together: where the next one's begin.
 pub(crate) fn together(board: Board, count: usize) -> Lengths
     requires { count ≤ 8 }
-    ensures { (result.array ≡ together (take count board.chips)) × (result.serials ≡ serialsTogether (take count board.chips)) }
+    ensures { (result.array ≡ together (take count board.chips)) × (result.serials ≡ serials_together (take count board.chips)) }
 {
     let mut array = 0;
     let mut serials = 0;

@@ -1,7 +1,7 @@
 // One event on the board.
 ghost use Rattle.std.specs.Prelude.{◌≡◌, ◌≤◌, ◌<◌, length};
-ghost use Rattle.board.specs.Chips.{fitted, pieces, serialsTogether, slice, together, withChips};
-ghost use Rattle.board.specs.Event.{every, at, refusalAt};
+ghost use Rattle.board.specs.Chips.{fitted, pieces, serials_together, slice, together, with_chips};
+ghost use Rattle.board.specs.Event.{every, at, refusal_at};
 ghost use Rattle.board.specs.Promises.{BoardPromise};
 
 use crate::checks::{checks, is_own};
@@ -26,8 +26,8 @@ struct OwnMove {
 
 // "A shared line moves every chip": each its own state, its own piece of the slice and its own serial number.
 fn move_every(board: Board, array: &mut [u8], serials: &[u8], code: u64) -> Board
-    requires { (board.count ≤ 8) × (together (fitted board) ≡ length array.old) × (serialsTogether (fitted board) ≡ length serials.now) }
-    ensures { (result ≡ withChips board (every code (pieces (fitted board) array.old serials.now)))
+    requires { (board.count ≤ 8) × (together (fitted board) ≡ length array.old) × (serials_together (fitted board) ≡ length serials.now) }
+    ensures { (result ≡ with_chips board (every code (pieces (fitted board) array.old serials.now)))
         × (array.new ≡ slice (every code (pieces (fitted board) array.old serials.now))) }
 {
     let count = board.count;
@@ -53,9 +53,9 @@ fn move_every(board: Board, array: &mut [u8], serials: &[u8], code: u64) -> Boar
 // "an own line moves one chip and nothing of any other, bytes included"
 fn move_one(board: Board, array: &mut [u8], serials: &[u8], chip: usize, code: u64) -> OwnMove
     requires { (board.count ≤ 8) × (chip < board.count)
-        × (together (fitted board) ≡ length array.old) × (serialsTogether (fitted board) ≡ length serials.now) }
-    ensures { (result.refusal ≡ refusalAt chip code (pieces (fitted board) array.old serials.now))
-        × (result.board ≡ withChips board (at chip code (pieces (fitted board) array.old serials.now)))
+        × (together (fitted board) ≡ length array.old) × (serials_together (fitted board) ≡ length serials.now) }
+    ensures { (result.refusal ≡ refusal_at chip code (pieces (fitted board) array.old serials.now))
+        × (result.board ≡ with_chips board (at chip code (pieces (fitted board) array.old serials.now)))
         × (array.new ≡ slice (at chip code (pieces (fitted board) array.old serials.now))) }
 {
     let state = board.chips[chip];

@@ -1,7 +1,7 @@
 // The board's power-up.
 ghost use Rattle.std.specs.Prelude.{◌≡◌, ◌≤◌, ◌++◌, length, drop};
-ghost use Rattle.parts.specs.Figures.{inMask};
-ghost use Rattle.board.specs.Power.{asked, allParts, allMasked, togetherAsked, powerRefusal, powered, powerUp, spare};
+ghost use Rattle.parts.specs.Figures.{in_mask};
+ghost use Rattle.board.specs.Power.{asked, all_parts, all_masked, together_asked, power_refusal, powered, power_up, spare};
 
 use crate::checks::no_board;
 use crate::chips::{Board, MOST, part_lengths};
@@ -32,7 +32,7 @@ pub struct PoweredBoard {
 
 fn all_parts(plan: Plan) -> bool
     requires { plan.count ≤ 8 }
-    ensures { result ≡ allParts (asked plan) }
+    ensures { result ≡ all_parts (asked plan) }
 {
     let count = plan.count;
     let mut i = 0;
@@ -47,7 +47,7 @@ fn all_parts(plan: Plan) -> bool
 
 // Whether the kept bits are under the part's mask.
 fn in_mask(asked: Asked) -> bool
-    ensures { result ≡ inMask asked.part asked.kept }
+    ensures { result ≡ in_mask asked.part asked.kept }
 {
     let kept = asked.kept;
     let f = figure_of(asked.part);
@@ -56,7 +56,7 @@ fn in_mask(asked: Asked) -> bool
 
 fn all_masked(plan: Plan) -> bool
     requires { plan.count ≤ 8 }
-    ensures { result ≡ allMasked (asked plan) }
+    ensures { result ≡ all_masked (asked plan) }
 {
     let count = plan.count;
     let mut i = 0;
@@ -71,7 +71,7 @@ fn all_masked(plan: Plan) -> bool
 
 fn together_asked(plan: Plan) -> usize
     requires { plan.count ≤ 8 }
-    ensures { result ≡ togetherAsked (asked plan) }
+    ensures { result ≡ together_asked (asked plan) }
 {
     let count = plan.count;
     let mut sum = 0;
@@ -85,7 +85,7 @@ fn together_asked(plan: Plan) -> usize
 }
 
 fn power_refusal(plan: Plan, len: usize) -> u8
-    ensures { result ≡ powerRefusal plan len }
+    ensures { result ≡ power_refusal plan len }
 {
     if no_board(plan.count) {
         return 13;
@@ -104,7 +104,7 @@ fn power_refusal(plan: Plan, len: usize) -> u8
 
 // Each chip's own power-up, over its own piece of the slice.
 fn power_each(plan: Plan, array: &[u8]) -> [State; MOST]
-    requires { (plan.count ≤ 8) × (togetherAsked (asked plan) ≡ length array.now) }
+    requires { (plan.count ≤ 8) × (together_asked (asked plan) ≡ length array.now) }
     ensures { result ≡ powered (asked plan) array.now ++ drop plan.count spare }
 {
     let count = plan.count;
@@ -126,7 +126,7 @@ fn power_each(plan: Plan, array: &[u8]) -> [State; MOST]
 
 // Power-up of the board's chips with their kept bits, over the slice that is lent to them.
 pub fn power_up(plan: Plan, array: &[u8]) -> PoweredBoard
-    ensures { result ≡ powerUp plan array.now }
+    ensures { result ≡ power_up plan array.now }
 {
     let refusal = power_refusal(plan, array.len());
     if refusal != 0 {

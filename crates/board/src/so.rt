@@ -1,8 +1,8 @@
 // The board's SO.
 ghost use Rattle.std.specs.Prelude.{◌≡◌, ◌≤◌};
 ghost use Rattle.board.specs.Chips.{fitted};
-ghost use Rattle.board.specs.So.{boardSo};
-ghost use Rattle.board.specs.Loop.{drivenBy, joined};
+ghost use Rattle.board.specs.So.{board_so};
+ghost use Rattle.board.specs.Loop.{driven_by, joined};
 
 use crate::chips::Board;
 use select::notes::Level;
@@ -18,7 +18,7 @@ pub enum BoardSo {
 
 // What the line is once one more chip drives it.
 fn driven(so: BoardSo, own: BoardSo) -> BoardSo
-    ensures { result ≡ drivenBy so own }
+    ensures { result ≡ driven_by so own }
 {
     match so {
         BoardSo::Released => own,
@@ -41,7 +41,7 @@ fn joined(so: BoardSo, level: Level) -> BoardSo
 
 pub(crate) fn board_so(board: Board) -> BoardSo
     requires { board.count ≤ 8 }
-    ensures { result ≡ boardSo (fitted board) }
+    ensures { result ≡ board_so (fitted board) }
 {
     let count = board.count;
     let mut so = BoardSo::Released;

@@ -1,6 +1,6 @@
 -- An answer in the numbers of document 01. Assumes nothing.
 use Rattle.std.specs.Prelude.{ℕ}
-use Rattle.select.specs.Notes.{levelNumber, NoteNumbers, noteNumbers}
+use Rattle.select.specs.Notes.{level_number, NoteNumbers, note_numbers}
 use Rattle.pins.specs.declared.state.State.{State}
 use Rattle.chip.specs.declared.event.Answer.{Answer}
 
@@ -13,4 +13,4 @@ pub record Paper : Type 0 where
 
 abbrev pub paper : Answer → Paper
 paper r =
-    record { refusal = r.refusal; state = r.state; so = levelNumber r.so; note = noteNumbers r.note }
+    record { refusal = r.refusal; state = r.state; so = level_number r.so; note = note_numbers r.note }

@@ -5,67 +5,67 @@ use Rattle.std.proofs.Common.{◌∙◌, add-one, arith, drop-cons}
 use mathlib.Core.List.{List, [], ◌∷◌}
 use borrow.Author.Tests.{eq-eqb, ne_eqb, eqb-true, eqb-false, ltb-false, le-ltb}
 use Rattle.std.proofs.Math.Seq.{drop-length}
-use Rattle.parts.specs.Figures.{figureOf, fitsPart, fitsSerial}
+use Rattle.parts.specs.Figures.{figure_of, fits_part, fits_serial}
 use Rattle.parts.specs.declared.figures.Figure.{Figure}
-use Rattle.select.specs.Notes.{levelNumber}
+use Rattle.select.specs.Notes.{level_number}
 use Rattle.select.specs.declared.notes.Level.{Level}
 use Rattle.select.specs.declared.notes.Level.TheVariants.{Released}
 use Rattle.select.specs.declared.notes.Note.{Note}
 use Rattle.select.specs.declared.notes.Note.TheVariants.{Nothing}
-use Rattle.pins.specs.Levels.{soLevel}
+use Rattle.pins.specs.Levels.{so_level}
 use Rattle.pins.specs.Sound.{sound}
 use Rattle.pins.specs.declared.state.State.{State}
 use Rattle.step.specs.Step.{written}
-use Rattle.chip.specs.Event.{answer_of, lendRefusal, tried, event}
-use Rattle.chip.specs.List.{Course, setOut, tookOne, stopsAt, turn, course, listRefusal, listed}
-use Rattle.chip.specs.RefusalLaws.{refusal-told, refusal-stays}
-use Rattle.chip.specs.EventLaws.{event-lends, lend-passed, lend-none}
-use Rattle.step.specs.StepLaws.{written-length}
-use Rattle.chip.specs.RunLaws.{event-part}
-use Rattle.chip.specs.SoundLaws.{event-sound}
+use Rattle.chip.specs.Event.{answer_of, lend_refusal, tried, event}
+use Rattle.chip.specs.List.{Course, set_all_out, took_one, stops_at, turn, course, list_refusal, listed}
+use Rattle.chip.specs.RefusalLaws.{refusal_told, refusal_stays}
+use Rattle.chip.specs.EventLaws.{event_lends, lend_passed, lend_none}
+use Rattle.step.specs.StepLaws.{written_length}
+use Rattle.chip.specs.RunLaws.{event_part}
+use Rattle.chip.specs.SoundLaws.{event_sound}
 use Rattle.chip.specs.declared.event.Answer.{Answer}
 use Rattle.step.specs.declared.step.Stepped.{Stepped}
 
-pub turn-stops : (c : Course) (a : Answer) → (a.refusal ≡ 0 → ⊥) → turn c a ≡ stopsAt c a.refusal
-turn-stops c a e = rw (ne_eqb _ _ e)
+pub turn_stops : (c : Course) (a : Answer) → (a.refusal ≡ 0 → ⊥) → turn c a ≡ stops_at c a.refusal
+turn_stops c a e = rw (ne_eqb _ _ e)
 
 -- what the first checks let through: the state and what is lent with it, and the answers have room for every event
-pub list-passed : (s : State) (len serial codes levels : ℕ) → listRefusal s len serial codes levels ≡ 0
-    → (lendRefusal s len serial ≡ 0) × (codes ≤ levels)
-unfolding listRefusal
-list-passed s len serial codes levels = go (eqb (lendRefusal s len serial) 0) (ltb levels codes) refl refl
+pub list_passed : (s : State) (len serial codes levels : ℕ) → list_refusal s len serial codes levels ≡ 0
+    → (lend_refusal s len serial ≡ 0) × (codes ≤ levels)
+unfolding list_refusal
+list_passed s len serial codes levels = go (eqb (lend_refusal s len serial) 0) (ltb levels codes) refl refl
   where
-    go : (fine short : Bool) → eqb (lendRefusal s len serial) 0 ≡ fine → ltb levels codes ≡ short
-        → cond fine (cond short 12 0) (lendRefusal s len serial) ≡ 0 → (lendRefusal s len serial ≡ 0) × (codes ≤ levels)
+    go : (fine short : Bool) → eqb (lend_refusal s len serial) 0 ≡ fine → ltb levels codes ≡ short
+        → cond fine (cond short 12 0) (lend_refusal s len serial) ≡ 0 → (lend_refusal s len serial ≡ 0) × (codes ≤ levels)
     go true true p e h = absurd (eqb-false 12 0 refl h)
     go true false p e h = (eqb-true _ _ p, ltb-false _ _ e)
     go false short p e h = absurd (eqb-false _ _ p h)
 
-pub list-none : (s : State) (len serial codes levels : ℕ) → lendRefusal s len serial ≡ 0 → codes ≤ levels → listRefusal s len serial codes levels ≡ 0
-unfolding listRefusal
-list-none s len serial codes levels fine enough = rw (eq-eqb _ _ fine, le-ltb levels codes enough)
+pub list_none : (s : State) (len serial codes levels : ℕ) → lend_refusal s len serial ≡ 0 → codes ≤ levels → list_refusal s len serial codes levels ≡ 0
+unfolding list_refusal
+list_none s len serial codes levels fine enough = rw (eq-eqb _ _ fine, le-ltb levels codes enough)
 
 abbrev step_of : Course → Stepped
 step_of c = record { refusal = c.refusal; note = c.note; state = c.state }
 
 module _ (serial : List ℕ) where
   -- "It stops at the first refusal"
-  pub course-stays : (c : Course) (codes : List ℕ) → eqb c.refusal 0 ≡ false → course serial c codes ≡ c
+  pub course_stays : (c : Course) (codes : List ℕ) → eqb c.refusal 0 ≡ false → course serial c codes ≡ c
   unfolding course
-  course-stays c [] e = refl
-  course-stays c (code ∷ codes) e = rw e
+  course_stays c [] e = refl
+  course_stays c (code ∷ codes) e = rw e
 
-  pub course-turns : (c : Course) (code : ℕ) (codes : List ℕ) → eqb c.refusal 0 ≡ true
+  pub course_turns : (c : Course) (code : ℕ) (codes : List ℕ) → eqb c.refusal 0 ≡ true
       → course serial c (code ∷ codes) ≡ course serial (turn c (event serial c.array c.state code)) codes
   unfolding course
-  course-turns c code codes e = rw e
+  course_turns c code codes e = rw e
 
   -- ---- the loop, at its turn number i
 
   -- no code is left
-  pub loop-ends : (c : Course) (codes : List ℕ) (i : ℕ) → i ≡ length codes → c ≡ course serial c (drop i codes)
+  pub loop_ends : (c : Course) (codes : List ℕ) (i : ℕ) → i ≡ length codes → c ≡ course serial c (drop i codes)
   unfolding course
-  loop-ends c codes i e = sym (ap (λ (n : ℕ). course serial c (drop n codes)) e ∙ ap (course serial c) (drop-length codes))
+  loop_ends c codes i e = sym (ap (λ (n : ℕ). course serial c (drop n codes)) e ∙ ap (course serial c) (drop-length codes))
 
   module _ (xs : List ℕ) (s : State) (levels codes : List ℕ) (note : Note) (i : ℕ) (more : i < length codes) where
     abbrev here : Course
@@ -74,82 +74,82 @@ module _ (serial : List ℕ) where
     abbrev code : ℕ
     code = get_or codes i 0
 
-    one_more : course serial here (drop i codes) ≡ course serial (turn here (event serial xs s code)) (drop (i + 1) codes)
-    one_more =
+    one_more_lem : course serial here (drop i codes) ≡ course serial (turn here (event serial xs s code)) (drop (i + 1) codes)
+    one_more_lem =
         ap (course serial here) (drop-cons codes i 0 more ∙ ap (λ (n : ℕ). code ∷ drop n codes) (sym (add-one i)))
-        ∙ course-turns here code (drop (i + 1) codes) refl
+        ∙ course_turns here code (drop (i + 1) codes) refl
 
-    module _ (f : Figure) (t : Stepped) (row : f ≡ figureOf s.part) (came : t ≡ tried f serial xs s code) where
+    module _ (f : Figure) (t : Stepped) (row : f ≡ figure_of s.part) (came : t ≡ tried f serial xs s code) where
       -- the loop's attempt is the event
       told : answer_of t ≡ event serial xs s code
       unfolding event
       told = ap answer_of (came ∙ ap (λ (g : Figure). tried g serial xs s code) row)
 
       part_stays : t.state.part ≡ s.part
-      part_stays = ap (λ (a : Answer). a.state.part) told ∙ event-part s serial xs code
+      part_stays = ap (λ (a : Answer). a.state.part) told ∙ event_part s serial xs code
 
-      pub row_stays : f ≡ figureOf t.state.part
-      row_stays = row ∙ ap figureOf (sym part_stays)
+      pub row_stays : f ≡ figure_of t.state.part
+      row_stays = row ∙ ap figure_of (sym part_stays)
 
       -- nothing is refused of the next state and what is lent with it either: an event leads from a sound state to a sound one of
       -- the same part, and what it stores keeps the array's length
-      pub lend-stays : {ys : List ℕ} → ys ≡ written t.note xs → lendRefusal s (length xs) (length serial) ≡ 0
-          → lendRefusal t.state (length ys) (length serial) ≡ 0
-      lend-stays {ys} stored lent =
-          let passed = lend-passed s (length xs) (length serial) lent in
-          lend-none t.state (length ys) (length serial) (
-            ap (λ (a : Answer). sound a.state) told ∙ event-sound s passed.0 serial xs code,
-            ap (λ (p : ℕ). fitsPart p (length ys)) part_stays ∙ ap (fitsPart s.part) (ap length stored ∙ written-length t.note xs) ∙ passed.1,
-            ap (λ (p : ℕ). fitsSerial p (length serial)) part_stays ∙ passed.2,
+      pub lend_stays : {ys : List ℕ} → ys ≡ written t.note xs → lend_refusal s (length xs) (length serial) ≡ 0
+          → lend_refusal t.state (length ys) (length serial) ≡ 0
+      lend_stays {ys} stored lent =
+          let passed = lend_passed s (length xs) (length serial) lent in
+          lend_none t.state (length ys) (length serial) (
+            ap (λ (a : Answer). sound a.state) told ∙ event_sound s passed.0 serial xs code,
+            ap (λ (p : ℕ). fits_part p (length ys)) part_stays ∙ ap (fits_part s.part) (ap length stored ∙ written_length t.note xs) ∙ passed.1,
+            ap (λ (p : ℕ). fits_serial p (length serial)) part_stays ∙ passed.2,
           )
 
-      pub loop-goes : (ys : List ℕ) (so : Level) (level : ℕ) → t.refusal ≡ 0
-          → ys ≡ written t.note xs → so ≡ soLevel t.state → level ≡ levelNumber so
+      pub loop_goes : (ys : List ℕ) (so : Level) (level : ℕ) → t.refusal ≡ 0
+          → ys ≡ written t.note xs → so ≡ so_level t.state → level ≡ level_number so
           → course serial (record { refusal = 0; count = i + 1; note = t.note; state = t.state; array = ys; levels = set levels i level }) (drop (i + 1) codes)
           ≡ course serial here (drop i codes)
-      loop-goes ys so level fine stored shown put =
+      loop_goes ys so level fine stored shown put =
           rw (stored, put, shown)
-          (sym (one_more ∙ ap (λ (c : Course). course serial c (drop (i + 1) codes)) (ap (turn here) (sym told) ∙ rw (eq-eqb _ _ fine))))
+          (sym (one_more_lem ∙ ap (λ (c : Course). course serial c (drop (i + 1) codes)) (ap (turn here) (sym told) ∙ rw (eq-eqb _ _ fine))))
 
-      pub loop-stops : (t.refusal ≡ 0 → ⊥) → stopsAt here t.refusal ≡ course serial here (drop i codes)
-      loop-stops e =
+      pub loop_stops : (t.refusal ≡ 0 → ⊥) → stops_at here t.refusal ≡ course serial here (drop i codes)
+      loop_stops e =
           sym
-          (one_more
-          ∙ ap (λ (c : Course). course serial c (drop (i + 1) codes)) (ap (turn here) (sym told) ∙ turn-stops here (answer_of t) e)
-          ∙ course-stays (stopsAt here t.refusal) (drop (i + 1) codes) (ne_eqb _ _ e))
+          (one_more_lem
+          ∙ ap (λ (c : Course). course serial c (drop (i + 1) codes)) (ap (turn here) (sym told) ∙ turn_stops here (answer_of t) e)
+          ∙ course_stays (stops_at here t.refusal) (drop (i + 1) codes) (ne_eqb _ _ e))
 
   -- ---- the call, by what its first checks give
 
   module _ (xs : List ℕ) (s : State) (codes levels : List ℕ) where
     abbrev checked : ℕ
-    checked = listRefusal s (length xs) (length serial) (length codes) (length levels)
+    checked = list_refusal s (length xs) (length serial) (length codes) (length levels)
 
-    pub listed-runs : checked ≡ 0 → listed serial xs s codes levels ≡ course serial (setOut 0 s xs levels) codes
+    pub listed_runs : checked ≡ 0 → listed serial xs s codes levels ≡ course serial (set_all_out 0 s xs levels) codes
     unfolding listed
-    listed-runs e = ap (λ (n : ℕ). course serial (setOut n s xs levels) codes) e
+    listed_runs e = ap (λ (n : ℕ). course serial (set_all_out n s xs levels) codes) e
 
     -- "checked first even for an empty list": nothing is touched
-    pub listed-stops : (checked ≡ 0 → ⊥) → listed serial xs s codes levels ≡ setOut checked s xs levels
+    pub listed_stops : (checked ≡ 0 → ⊥) → listed serial xs s codes levels ≡ set_all_out checked s xs levels
     unfolding listed
-    listed-stops e = course-stays (setOut checked s xs levels) codes (ne_eqb _ _ e)
+    listed_stops e = course_stays (set_all_out checked s xs levels) codes (ne_eqb _ _ e)
 
   -- the call: what it asked first is what its checks give
-  module _ (xs : List ℕ) (s : State) (codes levels : List ℕ) {r : ℕ} (told : r ≡ listRefusal s (length xs) (length serial) (length codes) (length levels)) where
+  module _ (xs : List ℕ) (s : State) (codes levels : List ℕ) {r : ℕ} (told : r ≡ list_refusal s (length xs) (length serial) (length codes) (length levels)) where
     -- the loop may run: nothing is refused of what is lent, and the answers have room
-    pub call-passed : r ≡ 0 → (lendRefusal s (length xs) (length serial) ≡ 0) × (length codes ≤ length levels)
-    call-passed e = list-passed s (length xs) (length serial) (length codes) (length levels) (sym told ∙ e)
+    pub call_passed : r ≡ 0 → (lend_refusal s (length xs) (length serial) ≡ 0) × (length codes ≤ length levels)
+    call_passed e = list_passed s (length xs) (length serial) (length codes) (length levels) (sym told ∙ e)
 
-    pub call-runs : {c : Course} → r ≡ 0 → c ≡ course serial (setOut 0 s xs levels) codes → c ≡ listed serial xs s codes levels
-    call-runs e ran = ran ∙ sym (listed-runs xs s codes levels (sym told ∙ e))
+    pub call_runs : {c : Course} → r ≡ 0 → c ≡ course serial (set_all_out 0 s xs levels) codes → c ≡ listed serial xs s codes levels
+    call_runs e ran = ran ∙ sym (listed_runs xs s codes levels (sym told ∙ e))
 
-    pub call-stops : (r ≡ 0 → ⊥) → setOut r s xs levels ≡ listed serial xs s codes levels
-    call-stops e = rw told (sym (listed-stops xs s codes levels (λ z. e (told ∙ z))))
+    pub call_stops : (r ≡ 0 → ⊥) → set_all_out r s xs levels ≡ listed serial xs s codes levels
+    call_stops e = rw told (sym (listed_stops xs s codes levels (λ z. e (told ∙ z))))
 
   -- ---- one event is the loop over one code
 
   module _ (xs : List ℕ) (s : State) (code level : ℕ) (levels : List ℕ) where
     abbrev start : Course
-    start = setOut 0 s xs (level ∷ levels)
+    start = set_all_out 0 s xs (level ∷ levels)
 
     abbrev answer : Answer
     answer = event serial xs s code
@@ -165,12 +165,12 @@ module _ (serial : List ℕ) where
     turned : Tells (turn start answer)
     turned = go (eqb answer.refusal 0) refl
       where
-        go : (t : Bool) → eqb answer.refusal 0 ≡ t → Tells (cond t (tookOne start answer) (stopsAt start answer.refusal))
+        go : (t : Bool) → eqb answer.refusal 0 ≡ t → Tells (cond t (took_one start answer) (stops_at start answer.refusal))
         go true e = (
           ap (λ (n : ℕ). answer_of (record { refusal = n; note = answer.note; state = answer.state })) (sym (eqb-true _ _ e)) ∙ sym same,
           refl,
         )
-        go false e = (sym (refusal-told s serial xs code e), sym (refusal-stays s serial xs code e))
+        go false e = (sym (refusal_told s serial xs code e), sym (refusal_stays s serial xs code e))
 
     -- what the loop leaves is the event's answer
     pub single : {c : Course} → c ≡ course serial start (code ∷ []) → Tells c
@@ -178,7 +178,7 @@ module _ (serial : List ℕ) where
     single e = rw e turned
 
   -- where something is refused of what is lent, that is the event's answer, and the array stays
-  module _ (xs : List ℕ) (s : State) (code : ℕ) {r : ℕ} (told : r ≡ lendRefusal s (length xs) (length serial)) (given : r ≡ 0 → ⊥) where
+  module _ (xs : List ℕ) (s : State) (code : ℕ) {r : ℕ} (told : r ≡ lend_refusal s (length xs) (length serial)) (given : r ≡ 0 → ⊥) where
     pub unlent : (record { refusal = r; so = Released; note = Nothing; state = s } ≡ event serial xs s code) × (xs ≡ written (event serial xs s code).note xs)
     unfolding written
-    unlent = rw (event-lends serial xs s code (ne_eqb _ _ (λ z. given (told ∙ z))), ← told, ne_eqb _ _ given) (refl, refl)
+    unlent = rw (event_lends serial xs s code (ne_eqb _ _ (λ z. given (told ∙ z))), ← told, ne_eqb _ _ given) (refl, refl)

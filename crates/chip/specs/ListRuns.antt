@@ -8,15 +8,15 @@ use Rattle.std.proofs.Math.Nat.{add-zero}
 use borrow.Author.Tests.{ne_eqb, eqb-true, eqb-false, le-ltb}
 use Rattle.std.proofs.Math.ListN.{length-append}
 use Rattle.pins.specs.declared.state.State.{State}
-use Rattle.select.specs.Notes.{levelNumber}
+use Rattle.select.specs.Notes.{level_number}
 use Rattle.select.specs.declared.notes.Note.{Note}
 use Rattle.step.specs.Step.{written}
-use Rattle.chip.specs.Event.{lendRefusal, event}
-use Rattle.chip.specs.List.{Course, setOut, tookOne, stopsAt, turn, course, listRefusal, listed}
-use Rattle.chip.specs.ListLaws.{course-stays, listed-runs, listed-stops, list-passed, list-none}
-use Rattle.chip.specs.EventLaws.{Lends, lend-passed, lend-none}
+use Rattle.chip.specs.Event.{lend_refusal, event}
+use Rattle.chip.specs.List.{Course, set_all_out, took_one, stops_at, turn, course, list_refusal, listed}
+use Rattle.chip.specs.ListLaws.{course_stays, listed_runs, listed_stops, list_passed, list_none}
+use Rattle.chip.specs.EventLaws.{Lends, lend_passed, lend_none}
 use Rattle.chip.specs.Run.{Chip, next, run}
-use Rattle.chip.specs.RunLaws.{run-part, run_length, run_sound}
+use Rattle.chip.specs.RunLaws.{run_part, run_length, run_sound}
 use Rattle.chip.specs.declared.event.Answer.{Answer}
 
 -- what the list call tells: all but the note
@@ -25,8 +25,8 @@ Same c d =
     (c.refusal ≡ d.refusal) × (c.count ≡ d.count) × (c.state ≡ d.state) × (c.array ≡ d.array) × (c.levels ≡ d.levels)
 
 module _ (serial : List ℕ) where
-  abbrev pub courseChip : Course → Chip
-  courseChip c = record { state = c.state; array = c.array; serial = serial }
+  abbrev pub course_chip : Course → Chip
+  course_chip c = record { state = c.state; array = c.array; serial = serial }
 
   -- how many more a course accepts
   unfoldable more : Course → List ℕ → ℕ
@@ -37,60 +37,60 @@ module _ (serial : List ℕ) where
   one_on : (n m : ℕ) → n + 1 + m ≡ n + suc m
   one_on n m = omega arith
 
-  from-none : (n : ℕ) → 0 + n ≡ n
-  from-none n = omega arith
+  from_none : (n : ℕ) → 0 + n ≡ n
+  from_none n = omega arith
 
   -- the count, and the chip that those events make
   abbrev Runs : Course → List ℕ → Type 0
-  Runs c codes = ((course serial c codes).count ≡ c.count + more c codes) × (courseChip (course serial c codes) ≡ run (courseChip c) (take (more c codes) codes))
+  Runs c codes = ((course serial c codes).count ≡ c.count + more c codes) × (course_chip (course serial c codes) ≡ run (course_chip c) (take (more c codes) codes))
 
   runs : (c : Course) (codes : List ℕ) → eqb c.refusal 0 ≡ true → Runs c codes
   unfolding more course run next
   runs c [] fine = (rw add-zero, refl)
-  runs c (code ∷ codes) fine = rw fine (go (runs (tookOne c a) codes refl) (eqb a.refusal 0) refl)
+  runs c (code ∷ codes) fine = rw fine (go (runs (took_one c a) codes refl) (eqb a.refusal 0) refl)
     where
       a : Answer
       a = event serial c.array c.state code
 
       on : Course
-      on = tookOne c a
+      on = took_one c a
 
       end : Course
-      end = stopsAt c a.refusal
+      end = stops_at c a.refusal
 
       go : Runs on codes → (t : Bool) → eqb a.refusal 0 ≡ t
           → ((course serial (cond t on end) codes).count ≡ c.count + cond t (suc (more (cond t on end) codes)) 0)
-          × (courseChip (course serial (cond t on end) codes) ≡ run (courseChip c) (take (cond t (suc (more (cond t on end) codes)) 0) (code ∷ codes)))
+          × (course_chip (course serial (cond t on end) codes) ≡ run (course_chip c) (take (cond t (suc (more (cond t on end) codes)) 0) (code ∷ codes)))
       go later true e = (later.0 ∙ one_on c.count (more on codes), later.1)
-      go later false e = (ap (λ (d : Course). d.count) (course-stays serial end codes e) ∙ sym (rw add-zero), ap courseChip (course-stays serial end codes e))
+      go later false e = (ap (λ (d : Course). d.count) (course_stays serial end codes e) ∙ sym (rw add-zero), ap course_chip (course_stays serial end codes e))
 
   -- "the count of events accepted and the state and memory those made", at every outcome
   module _ (xs : List ℕ) (s : State) (codes levels : List ℕ) where
     abbrev chip : Chip
     chip = record { state = s; array = xs; serial = serial }
 
-    pub listed-run : courseChip (listed serial xs s codes levels) ≡ run chip (take (listed serial xs s codes levels).count codes)
+    pub listed_run : course_chip (listed serial xs s codes levels) ≡ run chip (take (listed serial xs s codes levels).count codes)
     unfolding run
-    listed-run = go (eqb (listRefusal s (length xs) (length serial) (length codes) (length levels)) 0) refl
+    listed_run = go (eqb (list_refusal s (length xs) (length serial) (length codes) (length levels)) 0) refl
       where
         Goal : Course → Type 0
-        Goal c = courseChip c ≡ run chip (take c.count codes)
+        Goal c = course_chip c ≡ run chip (take c.count codes)
 
-        ran : Goal (course serial (setOut 0 s xs levels) codes)
+        ran : Goal (course serial (set_all_out 0 s xs levels) codes)
         ran =
-            (runs (setOut 0 s xs levels) codes refl).1
-            ∙ ap (λ (n : ℕ). run chip (take n codes)) (sym ((runs (setOut 0 s xs levels) codes refl).0 ∙ from-none (more (setOut 0 s xs levels) codes)))
+            (runs (set_all_out 0 s xs levels) codes refl).1
+            ∙ ap (λ (n : ℕ). run chip (take n codes)) (sym ((runs (set_all_out 0 s xs levels) codes refl).0 ∙ from_none (more (set_all_out 0 s xs levels) codes)))
 
-        go : (t : Bool) → eqb (listRefusal s (length xs) (length serial) (length codes) (length levels)) 0 ≡ t → Goal (listed serial xs s codes levels)
-        go true e = rw (listed-runs serial xs s codes levels (eqb-true _ _ e)) ran
-        go false e = rw (listed-stops serial xs s codes levels (eqb-false _ _ e)) refl
+        go : (t : Bool) → eqb (list_refusal s (length xs) (length serial) (length codes) (length levels)) 0 ≡ t → Goal (listed serial xs s codes levels)
+        go true e = rw (listed_runs serial xs s codes levels (eqb-true _ _ e)) ran
+        go false e = rw (listed_stops serial xs s codes levels (eqb-false _ _ e)) refl
 
   -- ---- a list in two pieces
 
-  pub course-append : (c : Course) (ps qs : List ℕ) → course serial c (ps ++ qs) ≡ course serial (course serial c ps) qs
+  pub course_append : (c : Course) (ps qs : List ℕ) → course serial c (ps ++ qs) ≡ course serial (course serial c ps) qs
   unfolding course
-  course-append c [] qs = refl
-  course-append c (p ∷ ps) qs = go (course-append (turn c (event serial c.array c.state p)) ps qs) (eqb c.refusal 0) refl
+  course_append c [] qs = refl
+  course_append c (p ∷ ps) qs = go (course_append (turn c (event serial c.array c.state p)) ps qs) (eqb c.refusal 0) refl
     where
       on : Course
       on = turn c (event serial c.array c.state p)
@@ -98,7 +98,7 @@ module _ (serial : List ℕ) where
       go : course serial on (ps ++ qs) ≡ course serial (course serial on ps) qs → (t : Bool) → eqb c.refusal 0 ≡ t
           → cond t (course serial on (ps ++ qs)) c ≡ course serial (cond t (course serial on ps) c) qs
       go later true e = later
-      go later false e = sym (course-stays serial c qs e)
+      go later false e = sym (course_stays serial c qs e)
 
   -- a course whose answers stand behind others
   abbrev pub behind : List ℕ → Course → Course
@@ -112,18 +112,18 @@ module _ (serial : List ℕ) where
         levels = front ++ c.levels;
       }
 
-  suc-on : (n i : ℕ) → suc n + i ≡ suc (n + i)
-  suc-on n i = omega arith
+  suc_on : (n i : ℕ) → suc n + i ≡ suc (n + i)
+  suc_on n i = omega arith
 
-  set-behind : (front levels : List ℕ) (i v : ℕ) → set (front ++ levels) (length front + i) v ≡ front ++ set levels i v
-  set-behind [] levels i v = rw zero-add
-  set-behind (x ∷ front) levels i v =
-      ap (λ (n : ℕ). set (x ∷ (front ++ levels)) n v) (suc-on (length front) i) ∙ ap (λ (l : List ℕ). x ∷ l) (set-behind front levels i v)
+  set_behind : (front levels : List ℕ) (i v : ℕ) → set (front ++ levels) (length front + i) v ≡ front ++ set levels i v
+  set_behind [] levels i v = rw zero-add
+  set_behind (x ∷ front) levels i v =
+      ap (λ (n : ℕ). set (x ∷ (front ++ levels)) n v) (suc_on (length front) i) ∙ ap (λ (l : List ℕ). x ∷ l) (set_behind front levels i v)
 
-  turn-behind : (front : List ℕ) (c : Course) (a : Answer) → turn (behind front c) a ≡ behind front (turn c a)
-  turn-behind front c a = go (eqb a.refusal 0)
+  turn_behind : (front : List ℕ) (c : Course) (a : Answer) → turn (behind front c) a ≡ behind front (turn c a)
+  turn_behind front c a = go (eqb a.refusal 0)
     where
-      go : (t : Bool) → cond t (tookOne (behind front c) a) (stopsAt (behind front c) a.refusal) ≡ behind front (cond t (tookOne c a) (stopsAt c a.refusal))
+      go : (t : Bool) → cond t (took_one (behind front c) a) (stops_at (behind front c) a.refusal) ≡ behind front (cond t (took_one c a) (stops_at c a.refusal))
       go true = λ i.
           record {
             refusal = 0;
@@ -131,58 +131,58 @@ module _ (serial : List ℕ) where
             note = a.note;
             state = a.state;
             array = written a.note c.array;
-            levels = set-behind front c.levels c.count (levelNumber a.so) i;
+            levels = set_behind front c.levels c.count (level_number a.so) i;
           }
       go false = refl
 
-  pub course-behind : (front : List ℕ) (c : Course) (codes : List ℕ) → course serial (behind front c) codes ≡ behind front (course serial c codes)
+  pub course_behind : (front : List ℕ) (c : Course) (codes : List ℕ) → course serial (behind front c) codes ≡ behind front (course serial c codes)
   unfolding course
-  course-behind front c [] = refl
-  course-behind front c (code ∷ codes) =
-      go (course-behind front (turn c (event serial c.array c.state code)) codes) (eqb c.refusal 0)
+  course_behind front c [] = refl
+  course_behind front c (code ∷ codes) =
+      go (course_behind front (turn c (event serial c.array c.state code)) codes) (eqb c.refusal 0)
     where
       on : Course
       on = turn c (event serial c.array c.state code)
 
-      later-on : course serial (behind front on) codes ≡ behind front (course serial on codes)
+      later_on : course serial (behind front on) codes ≡ behind front (course serial on codes)
           → course serial (turn (behind front c) (event serial c.array c.state code)) codes ≡ behind front (course serial on codes)
-      later-on h = ap (λ (d : Course). course serial d codes) (turn-behind front c (event serial c.array c.state code)) ∙ h
+      later_on h = ap (λ (d : Course). course serial d codes) (turn_behind front c (event serial c.array c.state code)) ∙ h
 
       go : course serial (behind front on) codes ≡ behind front (course serial on codes) → (t : Bool)
           → cond t (course serial (turn (behind front c) (event serial c.array c.state code)) codes) (behind front c) ≡ behind front (cond t (course serial on codes) c)
-      go h true = later-on h
+      go h true = later_on h
       go h false = refl
 
   -- a course that was not stopped took every code
-  took-all : (c : Course) (codes : List ℕ) → eqb c.refusal 0 ≡ true → (course serial c codes).refusal ≡ 0 → more c codes ≡ length codes
+  took_all : (c : Course) (codes : List ℕ) → eqb c.refusal 0 ≡ true → (course serial c codes).refusal ≡ 0 → more c codes ≡ length codes
   unfolding more course
-  took-all c [] fine h = refl
-  took-all c (code ∷ codes) fine h = go (took-all (tookOne c a) codes refl) (eqb a.refusal 0) refl (rw fine at h)
+  took_all c [] fine h = refl
+  took_all c (code ∷ codes) fine h = go (took_all (took_one c a) codes refl) (eqb a.refusal 0) refl (rw fine at h)
     where
       a : Answer
       a = event serial c.array c.state code
 
       on : Course
-      on = tookOne c a
+      on = took_one c a
 
       end : Course
-      end = stopsAt c a.refusal
+      end = stops_at c a.refusal
 
       go : ((course serial on codes).refusal ≡ 0 → more on codes ≡ length codes) → (t : Bool) → eqb a.refusal 0 ≡ t
           → (course serial (cond t on end) codes).refusal ≡ 0 → cond t (suc (more (cond t on end) codes)) 0 ≡ suc (length codes)
       go later true e h = ap suc (later h)
-      go later false e h = absurd (eqb-false _ _ e (ap (λ (d : Course). d.refusal) (sym (course-stays serial end codes e)) ∙ h))
+      go later false e h = absurd (eqb-false _ _ e (ap (λ (d : Course). d.refusal) (sym (course_stays serial end codes e)) ∙ h))
 
-  levels-length : (c : Course) (codes : List ℕ) → length (course serial c codes).levels ≡ length c.levels
+  levels_length : (c : Course) (codes : List ℕ) → length (course serial c codes).levels ≡ length c.levels
   unfolding course
-  levels-length c [] = refl
-  levels-length c (code ∷ codes) = go (levels-length (turn c a) codes) (eqb c.refusal 0) (eqb a.refusal 0)
+  levels_length c [] = refl
+  levels_length c (code ∷ codes) = go (levels_length (turn c a) codes) (eqb c.refusal 0) (eqb a.refusal 0)
     where
       a : Answer
       a = event serial c.array c.state code
 
-      turned : (t : Bool) → length (cond t (tookOne c a) (stopsAt c a.refusal)).levels ≡ length c.levels
-      turned true = length-set c.levels c.count (levelNumber a.so)
+      turned : (t : Bool) → length (cond t (took_one c a) (stops_at c a.refusal)).levels ≡ length c.levels
+      turned true = length-set c.levels c.count (level_number a.so)
       turned false = refl
 
       go : length (course serial (turn c a) codes).levels ≡ length (turn c a).levels → (t u : Bool)
@@ -194,29 +194,29 @@ module _ (serial : List ℕ) where
   abbrev from : Note → State → List ℕ → List ℕ → Course
   from note s xs levels = record { refusal = 0; count = 0; note = note; state = s; array = xs; levels = levels }
 
-  note-untold : (note : Note) (s : State) (xs levels codes : List ℕ) → Same (course serial (from note s xs levels) codes) (course serial (setOut 0 s xs levels) codes)
+  note_untold : (note : Note) (s : State) (xs levels codes : List ℕ) → Same (course serial (from note s xs levels) codes) (course serial (set_all_out 0 s xs levels) codes)
   unfolding course
-  note-untold note s xs levels [] = (refl, refl, refl, refl, refl)
-  note-untold note s xs levels (code ∷ codes) = (refl, refl, refl, refl, refl)
+  note_untold note s xs levels [] = (refl, refl, refl, refl, refl)
+  note_untold note s xs levels (code ∷ codes) = (refl, refl, refl, refl, refl)
 
   module _ (xs : List ℕ) (s : State) (ps qs levels : List ℕ) (enough : length ps + length qs ≤ length levels) where
     abbrev one : Course
     one = listed serial xs s ps levels
 
     -- there is room for the first piece too
-    checks-alike : listRefusal s (length xs) (length serial) (length (ps ++ qs)) (length levels) ≡ listRefusal s (length xs) (length serial) (length ps) (length levels)
-    unfolding listRefusal
-    checks-alike = rw (le-ltb (length levels) (length (ps ++ qs)) (rw length-append enough), le-ltb (length levels) (length ps) (omega (arith, enough)))
+    checks_alike : list_refusal s (length xs) (length serial) (length (ps ++ qs)) (length levels) ≡ list_refusal s (length xs) (length serial) (length ps) (length levels)
+    unfolding list_refusal
+    checks_alike = rw (le-ltb (length levels) (length (ps ++ qs)) (rw length-append enough), le-ltb (length levels) (length ps) (omega (arith, enough)))
 
     whole : listed serial xs s (ps ++ qs) levels ≡ course serial one qs
     unfolding listed
     whole =
-        ap (λ (n : ℕ). course serial (setOut n s xs levels) (ps ++ qs)) checks-alike
-        ∙ course-append (setOut (listRefusal s (length xs) (length serial) (length ps) (length levels)) s xs levels) ps qs
+        ap (λ (n : ℕ). course serial (set_all_out n s xs levels) (ps ++ qs)) checks_alike
+        ∙ course_append (set_all_out (list_refusal s (length xs) (length serial) (length ps) (length levels)) s xs levels) ps qs
 
     -- the first piece stopped: so does the whole, and there
     pub first_stops : (one.refusal ≡ 0 → ⊥) → listed serial xs s (ps ++ qs) levels ≡ one
-    first_stops h = whole ∙ course-stays serial one qs (ne_eqb _ _ h)
+    first_stops h = whole ∙ course_stays serial one qs (ne_eqb _ _ h)
 
     -- else the second call, on what the first left, with the answers from the first's on
     module _ (fine : one.refusal ≡ 0) where
@@ -230,37 +230,37 @@ module _ (serial : List ℕ) where
       two = listed serial one.array one.state qs rest
 
       abbrev start : Course
-      start = setOut 0 s xs levels
+      start = set_all_out 0 s xs levels
 
-      passed : listRefusal s (length xs) (length serial) (length ps) (length levels) ≡ 0
-      passed = go (eqb (listRefusal s (length xs) (length serial) (length ps) (length levels)) 0) refl
+      passed : list_refusal s (length xs) (length serial) (length ps) (length levels) ≡ 0
+      passed = go (eqb (list_refusal s (length xs) (length serial) (length ps) (length levels)) 0) refl
         where
-          go : (t : Bool) → eqb (listRefusal s (length xs) (length serial) (length ps) (length levels)) 0 ≡ t → listRefusal s (length xs) (length serial) (length ps) (length levels) ≡ 0
+          go : (t : Bool) → eqb (list_refusal s (length xs) (length serial) (length ps) (length levels)) 0 ≡ t → list_refusal s (length xs) (length serial) (length ps) (length levels) ≡ 0
           go true e = eqb-true _ _ e
-          go false e = sym (ap (λ (c : Course). c.refusal) (listed-stops serial xs s ps levels (eqb-false _ _ e))) ∙ fine
+          go false e = sym (ap (λ (c : Course). c.refusal) (listed_stops serial xs s ps levels (eqb-false _ _ e))) ∙ fine
 
       is : one ≡ course serial start ps
-      is = listed-runs serial xs s ps levels passed
+      is = listed_runs serial xs s ps levels passed
 
-      count-is : one.count ≡ length ps
-      count-is =
-          ap (λ (c : Course). c.count) is ∙ (runs start ps refl).0 ∙ from-none (more start ps)
-          ∙ took-all start ps refl (ap (λ (c : Course). c.refusal) (sym is) ∙ fine)
+      count_is : one.count ≡ length ps
+      count_is =
+          ap (λ (c : Course). c.count) is ∙ (runs start ps refl).0 ∙ from_none (more start ps)
+          ∙ took_all start ps refl (ap (λ (c : Course). c.refusal) (sym is) ∙ fine)
 
-      levels-is : length one.levels ≡ length levels
-      levels-is = ap (λ (c : Course). length c.levels) is ∙ levels-length start ps
+      levels_is : length one.levels ≡ length levels
+      levels_is = ap (λ (c : Course). length c.levels) is ∙ levels_length start ps
 
       front_length : length front ≡ length ps
-      front_length = length-take-le (length ps) one.levels (rw levels-is (omega (arith, enough)))
+      front_length = length-take-le (length ps) one.levels (rw levels_is (omega (arith, enough)))
 
-      rest-length : length qs ≤ length rest
-      rest-length = rw (length-drop, levels-is) (omega (arith, enough))
+      rest_length : length qs ≤ length rest
+      rest_length = rw (length-drop, levels_is) (omega (arith, enough))
 
-      one-behind : one ≡ behind front (from one.note one.state one.array rest)
-      one-behind = λ i.
+      one_behind : one ≡ behind front (from one.note one.state one.array rest)
+      one_behind = λ i.
           record {
             refusal = fine i;
-            count = (count-is ∙ sym (add-zero (length front) ∙ front_length)) i;
+            count = (count_is ∙ sym (add-zero (length front) ∙ front_length)) i;
             note = one.note;
             state = one.state;
             array = one.array;
@@ -268,13 +268,13 @@ module _ (serial : List ℕ) where
           }
 
       -- the second call's checks pass: the first kept the part, the length and soundness
-      lent : lendRefusal one.state (length one.array) (length serial) ≡ 0
+      lent : lend_refusal one.state (length one.array) (length serial) ≡ 0
       lent =
-          ap (λ (c : Chip). lendRefusal c.state (length c.array) (length serial)) (listed-run xs s ps levels)
-          ∙ lend-none made.state (length made.array) (length serial) (
+          ap (λ (c : Chip). lend_refusal c.state (length c.array) (length serial)) (listed_run xs s ps levels)
+          ∙ lend_none made.state (length made.array) (length serial) (
             run_sound before accepted was.0,
-            rw (run-part before accepted, run_length before accepted) was.1,
-            rw (run-part before accepted) was.2,
+            rw (run_part before accepted, run_length before accepted) was.1,
+            rw (run_part before accepted) was.2,
           )
         where
           before : Chip
@@ -287,22 +287,22 @@ module _ (serial : List ℕ) where
           made = run before accepted
 
           was : Lends s (length xs) (length serial)
-          was = lend-passed s (length xs) (length serial) (list-passed s (length xs) (length serial) (length ps) (length levels) passed).0
+          was = lend_passed s (length xs) (length serial) (list_passed s (length xs) (length serial) (length ps) (length levels) passed).0
 
-      two_is : two ≡ course serial (setOut 0 one.state one.array rest) qs
-      two_is = listed-runs serial one.array one.state qs rest (list-none one.state (length one.array) (length serial) (length qs) (length rest) lent rest-length)
+      two_is : two ≡ course serial (set_all_out 0 one.state one.array rest) qs
+      two_is = listed_runs serial one.array one.state qs rest (list_none one.state (length one.array) (length serial) (length qs) (length rest) lent rest_length)
 
-      whole-behind : listed serial xs s (ps ++ qs) levels ≡ behind front (course serial (from one.note one.state one.array rest) qs)
-      whole-behind = whole ∙ ap (λ (c : Course). course serial c qs) one-behind ∙ course-behind front (from one.note one.state one.array rest) qs
+      whole_behind : listed serial xs s (ps ++ qs) levels ≡ behind front (course serial (from one.note one.state one.array rest) qs)
+      whole_behind = whole ∙ ap (λ (c : Course). course serial c qs) one_behind ∙ course_behind front (from one.note one.state one.array rest) qs
 
       untold : Same (course serial (from one.note one.state one.array rest) qs) two
-      untold = rw two_is (note-untold one.note one.state one.array rest qs)
+      untold = rw two_is (note_untold one.note one.state one.array rest qs)
 
       pub pieces : Same (listed serial xs s (ps ++ qs) levels) (behind front two)
       pieces = (
-        ap (λ (c : Course). c.refusal) whole-behind ∙ untold.0,
-        ap (λ (c : Course). c.count) whole-behind ∙ ap (λ (n : ℕ). length front + n) untold.1,
-        ap (λ (c : Course). c.state) whole-behind ∙ untold.2,
-        ap (λ (c : Course). c.array) whole-behind ∙ untold.3,
-        ap (λ (c : Course). c.levels) whole-behind ∙ ap (λ (l : List ℕ). front ++ l) untold.4,
+        ap (λ (c : Course). c.refusal) whole_behind ∙ untold.0,
+        ap (λ (c : Course). c.count) whole_behind ∙ ap (λ (n : ℕ). length front + n) untold.1,
+        ap (λ (c : Course). c.state) whole_behind ∙ untold.2,
+        ap (λ (c : Course). c.array) whole_behind ∙ untold.3,
+        ap (λ (c : Course). c.levels) whole_behind ∙ ap (λ (l : List ℕ). front ++ l) untold.4,
       )

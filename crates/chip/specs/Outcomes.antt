@@ -4,7 +4,7 @@
 use Rattle.std.specs.Prelude.{ℕ, ◌≡◌, Bool, List}
 use Rattle.std.proofs.Common.{ap}
 use Rattle.laws.specs.TestLaws.{sole}
-use Rattle.select.specs.NoteLaws.{level-sole, note-sole}
+use Rattle.select.specs.NoteLaws.{level_sole, note_sole}
 use Rattle.chip.specs.Answers.{Paper, paper}
 use Rattle.chip.specs.Promises.{EventPromise, ListPromise}
 use Rattle.pins.specs.Sound.{sound}
@@ -12,33 +12,33 @@ use Rattle.chip.specs.declared.event.Answer.{Answer}
 use Rattle.chip.specs.declared.list.Listed.{Listed}
 use Rattle.pins.specs.declared.state.State.{State}
 
-pub paper-sole : (a b : Answer) → paper a ≡ paper b → a ≡ b
-paper-sole a b e = λ i. record { refusal = (e i).refusal; so = so i; note = note i; state = (e i).state }
+pub paper_sole : (a b : Answer) → paper a ≡ paper b → a ≡ b
+paper_sole a b e = λ i. record { refusal = (e i).refusal; so = so i; note = note i; state = (e i).state }
   where
     so : a.so ≡ b.so
-    so = level-sole a.so b.so (ap (λ (p : Paper). p.so) e)
+    so = level_sole a.so b.so (ap (λ (p : Paper). p.so) e)
 
     note : a.note ≡ b.note
-    note = note-sole a.note b.note (ap (λ (p : Paper). p.note) e)
+    note = note_sole a.note b.note (ap (λ (p : Paper). p.note) e)
 
 -- what a call leaves: its answer and the lent array
 module _ (serial xs : List ℕ) (s : State) (code : ℕ) where
-  pub event-sole : (a b : Answer) (ys zs : List ℕ)
+  pub event_sole : (a b : Answer) (ys zs : List ℕ)
       → EventPromise serial xs s code a ys
       → EventPromise serial xs s code b zs
       → (a ≡ b) × (ys ≡ zs)
-  event-sole a b ys zs p q = (paper-sole a b (sole p.0 q.0), sole p.1 q.1)
+  event_sole a b ys zs p q = (paper_sole a b (sole p.0 q.0), sole p.1 q.1)
 
 module _ (serial xs : List ℕ) (s : State) (codes levels : List ℕ) where
-  pub list-sole : (a b : Listed) (ys zs ls ms : List ℕ)
+  pub list_sole : (a b : Listed) (ys zs ls ms : List ℕ)
       → ListPromise serial xs s codes levels a ys ls
       → ListPromise serial xs s codes levels b zs ms
       → (a ≡ b) × (ys ≡ zs) × (ls ≡ ms)
-  list-sole a b ys zs ls ms p q = (
+  list_sole a b ys zs ls ms p q = (
     λ i. record { refusal = sole p.0 q.0 i; count = sole p.1 q.1 i; state = sole p.2 q.2 i },
     sole p.3 q.3,
     sole p.4 q.4,
   )
 
-pub sound-sole : (s : State) (a b : Bool) → a ≡ sound s → b ≡ sound s → a ≡ b
-sound-sole s a b = sole
+pub sound_sole : (s : State) (a b : Bool) → a ≡ sound s → b ≡ sound s → a ≡ b
+sound_sole s a b = sole

@@ -3,21 +3,21 @@ use Rattle.std.specs.Prelude.{ℕ, ◌/◌, ◌%◌, ◌≡◌, Bool, ◌&&◌, 
 use Rattle.std.proofs.Math.Path.{refl}
 use Rattle.std.proofs.Common.{◌∙◌}
 use Rattle.std.proofs.Math.Bool.{true, false}
-use Rattle.parts.specs.Figures.{figureOf}
+use Rattle.parts.specs.Figures.{figure_of}
 use Rattle.laws.specs.TestLaws.{choose}
 use Rattle.parts.specs.declared.figures.Figure.{Figure}
 use Rattle.stages.specs.Close.{drops}
-use Rattle.pins.specs.Edges.{csFall, csRise, sckRise, sckFall, holdFall, holdRise}
-use Rattle.pins.specs.Levels.{csLevel, holdHigh}
+use Rattle.pins.specs.Edges.{cs_fall, cs_rise, sck_rise, sck_fall, hold_fall, hold_rise}
+use Rattle.pins.specs.Levels.{cs_level, hold_high}
 use Rattle.pins.specs.Sound.{sound}
 use Rattle.pins.specs.declared.state.State.{State}
 use Rattle.pins.specs.declared.state.Moved.{Moved}
-use Rattle.step.specs.Step.{csTo, sckTo, holdTo, csStayed, vddTo, live, step}
+use Rattle.step.specs.Step.{cs_to, sck_to, hold_to, cs_stayed, vdd_to, live, step}
 use Rattle.chip.specs.Event.{checks, event}
 use Rattle.chip.specs.Run.{Chip, next, run}
-use Rattle.chip.specs.SoundLaws.{event-sound}
+use Rattle.chip.specs.SoundLaws.{event_sound}
 use Rattle.step.specs.declared.step.Stepped.{Stepped}
-use Rattle.step.specs.StepLaws.{written-length}
+use Rattle.step.specs.StepLaws.{written_length}
 
 -- every edge keeps the part
 module _ (s : State) where
@@ -30,72 +30,72 @@ module _ (s : State) where
   abbrev Steps : Stepped → Type 0
   Steps t = Same t.state
 
-  cs-part : (f : Figure) (level : Bool) → Moves (csTo f s level)
-  unfolding csFall csRise
-  cs-part f true =
-      choose Moves (csLevel s) refl (choose Moves (holdHigh s.hold) (choose Moves (s.latch && drops s.stage) refl refl) refl)
-  cs-part f false = choose Moves (csLevel s) (choose Same (holdHigh s.hold) refl refl) refl
+  cs_part : (f : Figure) (level : Bool) → Moves (cs_to f s level)
+  unfolding cs_fall cs_rise
+  cs_part f true =
+      choose Moves (cs_level s) refl (choose Moves (hold_high s.hold) (choose Moves (s.latch && drops s.stage) refl refl) refl)
+  cs_part f false = choose Moves (cs_level s) (choose Same (hold_high s.hold) refl refl) refl
 
-  sck-part : (f : Figure) (serial xs : List ℕ) (level : Bool) → Moves (sckTo f serial xs s level)
-  unfolding sckRise sckFall
-  sck-part f serial xs true = choose Moves s.sck refl (choose Moves (holdHigh s.hold) refl refl)
-  sck-part f serial xs false = choose Moves s.sck (choose Same (holdHigh s.hold) refl refl) refl
+  sck_part : (f : Figure) (serial xs : List ℕ) (level : Bool) → Moves (sck_to f serial xs s level)
+  unfolding sck_rise sck_fall
+  sck_part f serial xs true = choose Moves s.sck refl (choose Moves (hold_high s.hold) refl refl)
+  sck_part f serial xs false = choose Moves s.sck (choose Same (hold_high s.hold) refl refl) refl
 
-  hold-part : (level : Bool) → Steps (holdTo s level)
-  unfolding holdFall holdRise
-  hold-part true = choose Steps (holdHigh s.hold) refl (choose Steps s.sck refl (choose Steps (csStayed s) refl refl))
-  hold-part false = choose Steps (holdHigh s.hold) (choose Steps s.sck refl refl) refl
+  hold_part : (level : Bool) → Steps (hold_to s level)
+  unfolding hold_fall hold_rise
+  hold_part true = choose Steps (hold_high s.hold) refl (choose Steps s.sck refl (choose Steps (cs_stayed s) refl refl))
+  hold_part false = choose Steps (hold_high s.hold) (choose Steps s.sck refl refl) refl
 
-  vdd-part : (level : Bool) → Moves (vddTo s level)
-  vdd-part true = refl
-  vdd-part false = refl
+  vdd_part : (level : Bool) → Moves (vdd_to s level)
+  vdd_part true = refl
+  vdd_part false = refl
 
-  live-part : (f : Figure) (serial xs : List ℕ) (pin : ℕ) (level : Bool) → Steps (live f serial xs s pin level)
+  live_part : (f : Figure) (serial xs : List ℕ) (pin : ℕ) (level : Bool) → Steps (live f serial xs s pin level)
   unfolding live
-  live-part f serial xs pin level =
-      choose Steps (eqb pin 0) (cs-part f level)
-      (choose Steps (eqb pin 1) (sck-part f serial xs level)
+  live_part f serial xs pin level =
+      choose Steps (eqb pin 0) (cs_part f level)
+      (choose Steps (eqb pin 1) (sck_part f serial xs level)
       (choose Steps (eqb pin 2) refl
-      (choose Steps (eqb pin 3) (hold-part level)
+      (choose Steps (eqb pin 3) (hold_part level)
       (choose Steps (eqb pin 4) refl
-      (vdd-part level)))))
+      (vdd_part level)))))
 
-  pub event-part : (serial xs : List ℕ) (code : ℕ) → (event serial xs s code).state.part ≡ s.part
+  pub event_part : (serial xs : List ℕ) (code : ℕ) → (event serial xs s code).state.part ≡ s.part
   unfolding event step
-  event-part serial xs code =
+  event_part serial xs code =
       choose Steps (eqb (checks s (length xs) (length serial) code) 0)
-      (choose Steps s.power (live-part (figureOf s.part) serial xs (code / 2) (eqb (code % 2) 1)) (choose Moves (eqb code 11) refl refl))
+      (choose Steps s.power (live_part (figure_of s.part) serial xs (code / 2) (eqb (code % 2) 1)) (choose Moves (eqb code 11) refl refl))
       refl
 
 module _ (c : Chip) (code : ℕ) where
-  pub next-part : (next c code).state.part ≡ c.state.part
+  pub next_part : (next c code).state.part ≡ c.state.part
   unfolding next
-  next-part = event-part c.state c.serial c.array code
+  next_part = event_part c.state c.serial c.array code
 
-  pub next-length : length (next c code).array ≡ length c.array
+  pub next_length : length (next c code).array ≡ length c.array
   unfolding next
-  next-length = written-length (event c.serial c.array c.state code).note c.array
+  next_length = written_length (event c.serial c.array c.state code).note c.array
 
-  pub next-sound : sound c.state ≡ true → sound (next c code).state ≡ true
+  pub next_sound : sound c.state ≡ true → sound (next c code).state ≡ true
   unfolding next
-  next-sound h = event-sound c.state h c.serial c.array code
+  next_sound h = event_sound c.state h c.serial c.array code
 
-pub run-part : (c : Chip) (codes : List ℕ) → (run c codes).state.part ≡ c.state.part
+pub run_part : (c : Chip) (codes : List ℕ) → (run c codes).state.part ≡ c.state.part
 unfolding run
-run-part c [] = refl
-run-part c (code ∷ codes) = run-part (next c code) codes ∙ next-part c code
+run_part c [] = refl
+run_part c (code ∷ codes) = run_part (next c code) codes ∙ next_part c code
 
 pub run_length : (c : Chip) (codes : List ℕ) → length (run c codes).array ≡ length c.array
 unfolding run
 run_length c [] = refl
-run_length c (code ∷ codes) = run_length (next c code) codes ∙ next-length c code
+run_length c (code ∷ codes) = run_length (next c code) codes ∙ next_length c code
 
-pub run-serial : (c : Chip) (codes : List ℕ) → (run c codes).serial ≡ c.serial
+pub run_serial : (c : Chip) (codes : List ℕ) → (run c codes).serial ≡ c.serial
 unfolding run next
-run-serial c [] = refl
-run-serial c (code ∷ codes) = run-serial (next c code) codes
+run_serial c [] = refl
+run_serial c (code ∷ codes) = run_serial (next c code) codes
 
 pub run_sound : (c : Chip) (codes : List ℕ) → sound c.state ≡ true → sound (run c codes).state ≡ true
 unfolding run
 run_sound c [] h = h
-run_sound c (code ∷ codes) h = run_sound (next c code) codes (next-sound c code h)
+run_sound c (code ∷ codes) h = run_sound (next c code) codes (next_sound c code h)

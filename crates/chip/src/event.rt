@@ -1,7 +1,7 @@
 // One event.
 ghost use Rattle.std.specs.Prelude.{◌≡◌};
 ghost use Rattle.chip.specs.Event.{answer_of};
-ghost use Rattle.chip.specs.Loop.{lastStep};
+ghost use Rattle.chip.specs.Loop.{last_step};
 ghost use Rattle.chip.specs.Promises.{EventPromise};
 
 use crate::run::{Ran, go, lend_refusal};
@@ -19,7 +19,7 @@ pub struct Answer {
 
 // SO as it is after the event, released where that was refused.
 fn answer_of(ran: Ran) -> Answer
-    ensures { result ≡ answer_of (lastStep ran) }
+    ensures { result ≡ answer_of (last_step ran) }
 {
     let refusal = ran.refusal;
     let note = ran.note;

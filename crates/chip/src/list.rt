@@ -1,6 +1,6 @@
 // A whole list of events at once (document 02, Wish 1).
 ghost use Rattle.std.specs.Prelude.{◌≡◌};
-ghost use Rattle.chip.specs.List.{listRefusal};
+ghost use Rattle.chip.specs.List.{list_refusal};
 ghost use Rattle.chip.specs.Promises.{ListPromise};
 
 use crate::run::{go, lend_refusal};
@@ -16,7 +16,7 @@ pub struct Listed {
 
 // The refusals that come before the first event; 0 where none is given.
 fn list_refusal(state: State, len: usize, serial: usize, codes: usize, levels: usize) -> u8
-    ensures { result ≡ listRefusal state len serial codes levels }
+    ensures { result ≡ list_refusal state len serial codes levels }
 {
     let lent = lend_refusal(state, len, serial);
     if lent != 0 {

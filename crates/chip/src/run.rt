@@ -2,11 +2,11 @@
 // `step`: a large function called at one place stays in the loop when it is compiled. Both read the part's row for themselves, so
 // that they stay two functions and the checks take no room in the loop (docs/SPEED.md).
 ghost use Rattle.std.specs.Prelude.{◌≡◌, ◌≤◌, length};
-ghost use Rattle.parts.specs.Figures.{figureOf};
-ghost use Rattle.select.specs.Notes.{levelNumber};
-ghost use Rattle.chip.specs.Event.{lendRefusal, tried};
-ghost use Rattle.chip.specs.List.{setOut, course};
-ghost use Rattle.chip.specs.Loop.{courseOf};
+ghost use Rattle.parts.specs.Figures.{figure_of};
+ghost use Rattle.select.specs.Notes.{level_number};
+ghost use Rattle.chip.specs.Event.{lend_refusal, tried};
+ghost use Rattle.chip.specs.List.{set_all_out, course};
+ghost use Rattle.chip.specs.Loop.{course_of};
 
 use parts::figures::{Figure, figure_of, takes_serial};
 use pins::sound::sound_by;
@@ -26,7 +26,7 @@ pub(crate) struct Ran {
 
 // The refusals of a state and of what is lent with it, an array and a serial number; 0 where none is given.
 pub(crate) fn lend_refusal(state: State, len: usize, serial: usize) -> u8
-    ensures { result ≡ lendRefusal state len serial }
+    ensures { result ≡ lend_refusal state len serial }
 {
     let f = figure_of(state.part as u64);
     if !sound_by(f, state) {
@@ -43,8 +43,8 @@ pub(crate) fn lend_refusal(state: State, len: usize, serial: usize) -> u8
 
 // One event where nothing is refused of the state and what is lent with it: 5 is all that is left to check before the step.
 fn attempt(f: Figure, state: State, array: &[u8], serial: &[u8], code: u64) -> Stepped
-    requires f_value { f ≡ figureOf state.part }
-    requires serial_value { lendRefusal state (length array.now) (length serial.now) ≡ 0 }
+    requires f_value { f ≡ figure_of state.part }
+    requires serial_value { lend_refusal state (length array.now) (length serial.now) ≡ 0 }
     ensures { result ≡ tried f serial.now array.now state code }
 {
     if 12 <= code {
@@ -55,7 +55,7 @@ fn attempt(f: Figure, state: State, array: &[u8], serial: &[u8], code: u64) -> S
 }
 
 fn level_number(level: Level) -> u8
-    ensures { result ≡ levelNumber level }
+    ensures { result ≡ level_number level }
 {
     match level {
         Level::Low => 0,
@@ -74,10 +74,10 @@ pub(crate) fn go(
     codes: &[u64],
     levels: &mut [u8],
 ) -> Ran
-    requires serial_value { lendRefusal state (length array.old) (length serial.now) ≡ 0 }
+    requires serial_value { lend_refusal state (length array.old) (length serial.now) ≡ 0 }
     requires codes_in_bounds { length codes.now ≤ length levels.old }
-    ensures { courseOf result array.new levels.new
-        ≡ course serial.now (setOut 0 state array.old levels.old) codes.now }
+    ensures { course_of result array.new levels.new
+        ≡ course serial.now (set_all_out 0 state array.old levels.old) codes.now }
 {
     let f = figure_of(state.part as u64);
     let mut state = state;

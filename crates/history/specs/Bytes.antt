@@ -12,14 +12,14 @@ pub record Byte : Type 0 where
   pub wp : Bool
 
 -- "most significant bit first"
-unfoldable pub bitsValue : List Bit → ℕ
-bitsValue [] = 0
-bitsValue (b ∷ bs) = cond b.si 1 0 * 2 ^ length bs + bitsValue bs
+unfoldable pub bits_value : List Bit → ℕ
+bits_value [] = 0
+bits_value (b ∷ bs) = cond b.si 1 0 * 2 ^ length bs + bits_value bs
 
 -- /WP "is read at the byte's first rise and remembered for that byte" (document 02, Wish 2). The bit that `get_or` names for want
 -- of a first is never read.
 abbrev pub byte : List Bit → Byte
-byte bits = record { value = bitsValue bits; wp = (get_or bits 0 (record { si = false; wp = true })).wp }
+byte bits = record { value = bits_value bits; wp = (get_or bits 0 (record { si = false; wp = true })).wp }
 
 -- so many bytes' bits
 unfoldable pub eights : ℕ → List Bit → List (List Bit)
@@ -27,8 +27,8 @@ eights zero bits = []
 eights (suc n) bits = take 8 bits ∷ eights n (drop 8 bits)
 
 -- "each whole memory byte", "the first whole status byte": fewer than eight bits at the end are no byte
-unfoldable pub wholeBytes : List Bit → List Byte
-wholeBytes bits = map byte (eights (length bits / 8) bits)
+unfoldable pub whole_bytes : List Bit → List Byte
+whole_bytes bits = map byte (eights (length bits / 8) bits)
 
 -- "op-code bit 3 is the top bit": the address bit that the op-code holds, 0 where the part has none there
 unfoldable pub top_bit : Figure → ℕ → ℕ
@@ -45,8 +45,8 @@ address f code bs = number (top_bit f code) (take f.address_bytes bs) % f.size
 
 -- /W's "level at the fall of /S counts for the whole select" (document 02, Wish 3): where the row says so, WRSR's byte came with
 -- that level. WRITE's is left: there "/W guards the status byte only".
-abbrev pub wrsrByte : Figure → Bool → Byte → Byte
-wrsrByte f fell b = record { value = b.value; wp = cond f.wp_at_fall fell b.wp }
+abbrev pub wrsr_byte : Figure → Bool → Byte → Byte
+wrsr_byte f fell b = record { value = b.value; wp = cond f.wp_at_fall fell b.wp }
 
 -- what a transfer says: the latch's new value (WREN, WRDI), memory bytes from an address on (WRITE), that memory bytes from an
 -- address on be shown after a header of so many bytes (READ, FSTRD), status bytes (WRSR), sleep (SLEEP), or nothing that any of
@@ -59,20 +59,20 @@ pub data Reading : Type 0 where
   sleeps : Reading
   idles : Reading
 
-unfoldable pub readAs : Figure → Bool → ℕ → List Byte → Command → Reading
-readAs f fell code bs Wren = latches true
-readAs f fell code bs Wrdi = latches false
-readAs f fell code bs Rdsr = idles
-readAs f fell code bs Wrsr = keeps (map (wrsrByte f fell) bs)
-readAs f fell code bs Read = shows (address f code bs) (1 + f.address_bytes)
-readAs f fell code bs Fstrd = shows (address f code bs) (1 + f.address_bytes + f.dummy)
-readAs f fell code bs Write = stores (address f code bs) (drop f.address_bytes bs)
-readAs f fell code bs Rdid = idles
-readAs f fell code bs Snr = idles
-readAs f fell code bs Sleep = sleeps
-readAs f fell code bs Other = idles
+unfoldable pub read_as : Figure → Bool → ℕ → List Byte → Command → Reading
+read_as f fell code bs Wren = latches true
+read_as f fell code bs Wrdi = latches false
+read_as f fell code bs Rdsr = idles
+read_as f fell code bs Wrsr = keeps (map (wrsr_byte f fell) bs)
+read_as f fell code bs Read = shows (address f code bs) (1 + f.address_bytes)
+read_as f fell code bs Fstrd = shows (address f code bs) (1 + f.address_bytes + f.dummy)
+read_as f fell code bs Write = stores (address f code bs) (drop f.address_bytes bs)
+read_as f fell code bs Rdid = idles
+read_as f fell code bs Snr = idles
+read_as f fell code bs Sleep = sleeps
+read_as f fell code bs Other = idles
 
 -- "The first eight bits are the op-code". `fell` is the level of /WP at the fall of /CS.
-unfoldable pub readTransfer : Figure → Bool → List Byte → Reading
-readTransfer f fell [] = idles
-readTransfer f fell (op ∷ bs) = readAs f fell op.value bs (command f.ops op.value)
+unfoldable pub read_transfer : Figure → Bool → List Byte → Reading
+read_transfer f fell [] = idles
+read_transfer f fell (op ∷ bs) = read_as f fell op.value bs (command f.ops op.value)

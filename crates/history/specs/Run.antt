@@ -2,5 +2,5 @@
 use Rattle.chip.specs.Run.{Chip}
 use Rattle.history.specs.History.{World}
 
-abbrev pub worldOf : Chip → World
-worldOf c = record { latch = c.state.latch; kept = c.state.kept; array = c.array }
+abbrev pub world_of : Chip → World
+world_of c = record { latch = c.state.latch; kept = c.state.kept; array = c.array }

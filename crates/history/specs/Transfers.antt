@@ -19,14 +19,14 @@ rises (up b ∷ es) = b ∷ rises es
 rises (down ∷ es) = rises es
 
 -- the transfer that was opened right before these acts
-unfoldable pub transferFrom : List Act → Transfer
-transferFrom [] = record { edges = []; closed = false }
-transferFrom (opens wp ∷ later) = record { edges = []; closed = false }
-transferFrom (closes ∷ later) = record { edges = []; closed = true }
-transferFrom (takes b ∷ later) = record { edges = up b ∷ (transferFrom later).edges; closed = (transferFrom later).closed }
-transferFrom (falls ∷ later) = record { edges = down ∷ (transferFrom later).edges; closed = (transferFrom later).closed }
-transferFrom (cuts ∷ later) = record { edges = []; closed = false }
-transferFrom (passes ∷ later) = transferFrom later
+unfoldable pub transfer_from : List Act → Transfer
+transfer_from [] = record { edges = []; closed = false }
+transfer_from (opens wp ∷ later) = record { edges = []; closed = false }
+transfer_from (closes ∷ later) = record { edges = []; closed = true }
+transfer_from (takes b ∷ later) = record { edges = up b ∷ (transfer_from later).edges; closed = (transfer_from later).closed }
+transfer_from (falls ∷ later) = record { edges = down ∷ (transfer_from later).edges; closed = (transfer_from later).closed }
+transfer_from (cuts ∷ later) = record { edges = []; closed = false }
+transfer_from (passes ∷ later) = transfer_from later
 
 -- the transfers, each with the level of /WP at the fall of /CS that opened it, and the power cuts, in order
 pub data Span : Type 0 where
@@ -35,7 +35,7 @@ pub data Span : Type 0 where
 
 unfoldable pub spans : List Act → List Span
 spans [] = []
-spans (opens wp ∷ later) = transfer wp (transferFrom later) ∷ spans later
+spans (opens wp ∷ later) = transfer wp (transfer_from later) ∷ spans later
 spans (closes ∷ later) = spans later
 spans (takes b ∷ later) = spans later
 spans (falls ∷ later) = spans later

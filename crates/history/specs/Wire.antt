@@ -36,21 +36,21 @@ put l code =
     }
 
 -- "/HOLD may move only with SCK low, select open or not. It may rise only with /CS at the level it had when /HOLD fell (H)."
-abbrev pub holdFalls : Wire → ℕ → Bool
-holdFalls l code = eqb code 6 && l.hold
+abbrev pub hold_falls : Wire → ℕ → Bool
+hold_falls l code = eqb code 6 && l.hold
 
-abbrev pub holdRises : Wire → ℕ → Bool
-holdRises l code = eqb code 7 && not l.hold
+abbrev pub hold_rises : Wire → ℕ → Bool
+hold_rises l code = eqb code 7 && not l.hold
 
-abbrev pub csMoved : Wire → Bool
-csMoved l = cond l.seen (not l.cs) l.cs
+abbrev pub cs_moved : Wire → Bool
+cs_moved l = cond l.seen (not l.cs) l.cs
 
 -- 5 "event code 12 or more", 6 "power on, /HOLD would move with SCK high", 7 "power on, /HOLD would rise with /CS moved"; else 0
 unfoldable pub refusal : Wire → ℕ → ℕ
 refusal l code =
     cond (leb 12 code) 5
-    (cond (l.power && (holdFalls l code || holdRises l code) && l.sck) 6
-    (cond (l.power && holdRises l code && csMoved l) 7
+    (cond (l.power && (hold_falls l code || hold_rises l code) && l.sck) 6
+    (cond (l.power && hold_rises l code && cs_moved l) 7
     0))
 
 abbrev pub is_refused : Wire → ℕ → Bool
@@ -58,17 +58,17 @@ is_refused l code = not (eqb (refusal l code) 0)
 
 -- "refused events count as never sent". "With power off, each event but 11 is accepted and has no effect." Event 10 with
 -- power on gives the off state, "all else is as at power-up"; "Event 11 then gives the power-up state".
-unfoldable pub afterOne : Wire → ℕ → Wire
-afterOne l code =
+unfoldable pub after_one : Wire → ℕ → Wire
+after_one l code =
     cond (is_refused l code) l
     (cond l.power
     (cond (eqb code 10) (rest false) (put l code))
     (cond (eqb code 11) (rest true) l))
 
 -- the lines after a list of events
-unfoldable pub afterAll : Wire → List ℕ → Wire
-afterAll l [] = l
-afterAll l (code ∷ codes) = afterAll (afterOne l code) codes
+unfoldable pub after_all : Wire → List ℕ → Wire
+after_all l [] = l
+after_all l (code ∷ codes) = after_all (after_one l code) codes
 
 -- a bit: SI as it is taken, with the level of /WP then
 pub record Bit : Type 0 where
@@ -100,4 +100,4 @@ act l code =
 -- the acts of a list of events, in order
 unfoldable pub acts : Wire → List ℕ → List Act
 acts l [] = []
-acts l (code ∷ codes) = act l code ∷ acts (afterOne l code) codes
+acts l (code ∷ codes) = act l code ∷ acts (after_one l code) codes

@@ -26,15 +26,15 @@ common ops = op 0x06 Wren ∷ op 0x04 Wrdi ∷ op 0x05 Rdsr ∷ op 0x01 Wrsr ∷
 abbrev filler : Op
 filler = op 0 Other
 
-abbrev pub identBytes : ℕ
-identBytes = 9
+abbrev pub ident_bytes : ℕ
+ident_bytes = 9
 
 -- "a serial number of eight bytes"
-abbrev pub serialBytes : ℕ
-serialBytes = 8
+abbrev pub serial_bytes : ℕ
+serial_bytes = 8
 
 abbrev unnamed : List ℕ
-unnamed = replicate identBytes 0
+unnamed = replicate ident_bytes 0
 
 -- "1 | FM25L04 | 512 | op-code bit 3 is the top bit, then one byte | 0Ch". "READ 03h and 0Bh, WRITE 02h and 0Ah, bit 3
 --  being A8." "/WP low holds back the array and the status byte."
@@ -120,7 +120,7 @@ fm25v01 = fm25v filler 0
 
 -- "This part is part 4 with C3h showing a serial number of eight bytes". 004, Table 1: "SNR Read S/N 1100 0011b".
 abbrev pub fm25vn01 : Figure
-fm25vn01 = fm25v (op 0xC3 Snr) serialBytes
+fm25vn01 = fm25v (op 0xC3 Snr) serial_bytes
 
 -- a number that is no part's: no rule reads its row, since 1 or 4 is given before
 abbrev pub none : Figure
@@ -134,28 +134,28 @@ abbrev pub parts : List Figure
 parts = none ∷ rows
 
 -- a part's row
-unfoldable pub figureOf : ℕ → Figure
-figureOf part = get_or parts part none
+unfoldable pub figure_of : ℕ → Figure
+figure_of part = get_or parts part none
 
 -- "1 | part not 1 to 3"; "1 now begins at part 6"
-abbrev pub isPart : ℕ → Bool
-isPart part = ltb 0 part && ltb part (length parts)
+abbrev pub is_part : ℕ → Bool
+is_part part = ltb 0 part && ltb part (length parts)
 
 -- "2 | array length is not the part's"; "2 knows 16,384"
-abbrev pub fitsPart : ℕ → ℕ → Bool
-fitsPart part len = eqb len (figureOf part).size
+abbrev pub fits_part : ℕ → ℕ → Bool
+fits_part part len = eqb len (figure_of part).size
 
 -- 15, "for part 5 only ..: serial not eight bytes long": where a part has no serial number, any length will do
-abbrev pub takesSerial : Figure → ℕ → Bool
-takesSerial f len = eqb f.serial 0 || eqb len f.serial
+abbrev pub takes_serial : Figure → ℕ → Bool
+takes_serial f len = eqb f.serial 0 || eqb len f.serial
 
 -- and by the part's number
-abbrev pub fitsSerial : ℕ → ℕ → Bool
-fitsSerial part len = takesSerial (figureOf part) len
+abbrev pub fits_serial : ℕ → ℕ → Bool
+fits_serial part len = takes_serial (figure_of part) len
 
 -- "3 | kept bits outside the mask"
-abbrev pub underMask : Figure → ℕ → Bool
-underMask f kept = eqb (bit_and kept f.kept) kept
+abbrev pub under_mask : Figure → ℕ → Bool
+under_mask f kept = eqb (bit_and kept f.kept) kept
 
-abbrev pub inMask : ℕ → ℕ → Bool
-inMask part kept = underMask (figureOf part) kept
+abbrev pub in_mask : ℕ → ℕ → Bool
+in_mask part kept = under_mask (figure_of part) kept

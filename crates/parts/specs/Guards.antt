@@ -8,10 +8,10 @@ use Rattle.parts.specs.declared.guards.Verdict.{Verdict}
 use Rattle.parts.specs.declared.guards.Verdict.TheVariants.{Allowed, HeldBack}
 
 -- "Reasons: 1 latch off, 2 /WP, 3 block"
-abbrev pub reasonNumber : Reason → ℕ
-reasonNumber LatchOff = 1
-reasonNumber Protect = 2
-reasonNumber Block = 3
+abbrev pub reason_number : Reason → ℕ
+reason_number LatchOff = 1
+reason_number Protect = 2
+reason_number Block = 3
 
 -- a bit of the status byte is set
 abbrev pub is_set : ℕ → ℕ → Bool
@@ -25,23 +25,23 @@ guarded true false size = size / 2
 guarded true true size = size
 
 -- "the first protected address is the size, less nothing, a quarter, a half or all of it" (document 02, Wish 4)
-unfoldable pub firstProtected : Figure → ℕ → ℕ
-firstProtected f kept = f.size - guarded (is_set kept f.bp1) (is_set kept f.bp0) f.size
+unfoldable pub first_protected : Figure → ℕ → ℕ
+first_protected f kept = f.size - guarded (is_set kept f.bp1) (is_set kept f.bp0) f.size
 
 -- "The latch must be set. Parts 1 and 2: /WP low holds back the array and the status byte." And the blocks; "the
 --  lowest that applies is given".
-unfoldable pub mayStore : Figure → Bool → ℕ → Bool → ℕ → Verdict
-mayStore f latch kept wp at =
+unfoldable pub may_store : Figure → Bool → ℕ → Bool → ℕ → Verdict
+may_store f latch kept wp at =
     cond (not latch) (HeldBack LatchOff)
     (cond (f.guards_array && not wp) (HeldBack Protect)
-    (cond (leb (firstProtected f kept) at) (HeldBack Block)
+    (cond (leb (first_protected f kept) at) (HeldBack Block)
     Allowed))
 
 -- "The latch must be set. Parts 1 and 2: /WP low holds back .. the status byte. Part 3: /WP low with WPEN set holds back
 --  the status byte only." On parts 1 and 2 the row names no such bit, and none need be set. "Blocks don't guard the
 --  status byte."
-unfoldable pub mayKeep : Figure → Bool → ℕ → Bool → Verdict
-mayKeep f latch kept wp =
+unfoldable pub may_keep : Figure → Bool → ℕ → Bool → Verdict
+may_keep f latch kept wp =
     cond (not latch) (HeldBack LatchOff)
     (cond (eqb (bit_and kept f.enable) f.enable && not wp) (HeldBack Protect)
     Allowed)

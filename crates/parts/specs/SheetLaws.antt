@@ -1,12 +1,12 @@
 -- The protected ranges as the sheets print them: the rule is held against the papers, not only against itself. Assumes nothing.
 use Rattle.std.specs.Prelude.{ℕ, ◌≡◌, refl, List, [], ◌∷◌, map}
 use Rattle.parts.specs.Figures.{rows}
-use Rattle.parts.specs.Guards.{firstProtected}
+use Rattle.parts.specs.Guards.{first_protected}
 use Rattle.parts.specs.declared.figures.Figure.{Figure}
 
 -- where the range of a status byte of 00h, 04h, 08h and 0Ch begins: BP1 and BP0 are 00, 01, 10 and 11
 abbrev begins : Figure → List ℕ
-begins f = firstProtected f 0x00 ∷ firstProtected f 0x04 ∷ firstProtected f 0x08 ∷ firstProtected f 0x0C ∷ []
+begins f = first_protected f 0x00 ∷ first_protected f 0x04 ∷ first_protected f 0x08 ∷ first_protected f 0x0C ∷ []
 
 -- "Table 3. Block Memory Write Protection" of each part's sheet. "None" begins at the size, where no address is. A new part has its line here.
 abbrev printed : List (List ℕ)
@@ -23,6 +23,6 @@ printed =
     ∷ (0x4000 ∷ 0x3000 ∷ 0x2000 ∷ 0x0000 ∷ [])
     ∷ []
 
-pub as-printed : map begins rows ≡ printed
-unfolding firstProtected
-as-printed = refl
+pub as_printed : map begins rows ≡ printed
+unfolding first_protected
+as_printed = refl

@@ -1,6 +1,6 @@
 // The one table of the parts' figures. Every rule reads it; no part's number is tested anywhere else.
 ghost use Rattle.std.specs.Prelude.{◌≡◌};
-ghost use Rattle.parts.specs.Figures.{figureOf, fitsPart, isPart, takesSerial};
+ghost use Rattle.parts.specs.Figures.{figure_of, fits_part, is_part, takes_serial};
 
 use crate::commands::{Command, OPS, Op};
 
@@ -197,14 +197,14 @@ pub const LARGEST: usize = 16384;
 
 // Whether there is a part of this number.
 pub fn is_part(part: u64) -> bool
-    ensures { result ≡ isPart part }
+    ensures { result ≡ is_part part }
 {
     0 < part && part < PARTS.len() as u64
 }
 
 // A part's row; row 0 for a number that is no part's. By name: an index would build the whole table at each use.
 pub fn figure_of(part: u64) -> Figure
-    ensures { result ≡ figureOf part }
+    ensures { result ≡ figure_of part }
 {
     match part {
         1 => FM25L04,
@@ -218,7 +218,7 @@ pub fn figure_of(part: u64) -> Figure
 
 // Whether an array of this length is the part's.
 pub fn fits_part(part: u64, len: usize) -> bool
-    ensures { result ≡ fitsPart part len }
+    ensures { result ≡ fits_part part len }
 {
     let f = figure_of(part);
     len == f.size
@@ -226,7 +226,7 @@ pub fn fits_part(part: u64, len: usize) -> bool
 
 // Whether a serial number of this length is the part's: any, where the part has none.
 pub fn takes_serial(f: Figure, len: usize) -> bool
-    ensures { result ≡ takesSerial f len }
+    ensures { result ≡ takes_serial f len }
 {
     (f.serial == 0) | (len == f.serial)
 }

@@ -1,6 +1,6 @@
 // Who may write.
 ghost use Rattle.std.specs.Prelude.{◌≡◌};
-ghost use Rattle.parts.specs.Guards.{firstProtected, mayStore, mayKeep};
+ghost use Rattle.parts.specs.Guards.{first_protected, may_store, may_keep};
 
 use crate::figures::Figure;
 
@@ -19,7 +19,7 @@ pub enum Verdict {
 
 // The first address that the block bits BP1 and BP0 guard; the size where they guard none.
 pub fn first_protected(f: Figure, kept: u8) -> usize
-    ensures { result ≡ firstProtected f kept }
+    ensures { result ≡ first_protected f kept }
 {
     let bp1 = kept & f.bp1 != 0;
     let bp0 = kept & f.bp0 != 0;
@@ -33,7 +33,7 @@ pub fn first_protected(f: Figure, kept: u8) -> usize
 
 // Whether a whole memory byte may be stored; the lowest reason where not.
 pub fn may_store(f: Figure, latch: bool, kept: u8, wp: bool, at: usize) -> Verdict
-    ensures { result ≡ mayStore f latch kept wp at }
+    ensures { result ≡ may_store f latch kept wp at }
 {
     let first = first_protected(f, kept);
     if !latch {
@@ -50,7 +50,7 @@ pub fn may_store(f: Figure, latch: bool, kept: u8, wp: bool, at: usize) -> Verdi
 
 // Whether a whole status byte may be kept; blocks don't guard it.
 pub fn may_keep(f: Figure, latch: bool, kept: u8, wp: bool) -> Verdict
-    ensures { result ≡ mayKeep f latch kept wp }
+    ensures { result ≡ may_keep f latch kept wp }
 {
     if !latch {
         return Verdict::HeldBack(Reason::LatchOff);

@@ -2,16 +2,16 @@
 -- only their levels kept". Assumes nothing.
 use Rattle.std.specs.Prelude.{ℕ, Bool, true, false, cond, ◌&&◌, List}
 use Rattle.parts.specs.declared.figures.Figure.{Figure}
-use Rattle.stages.specs.Close.{drops, afterClose, afterFall}
-use Rattle.select.specs.Fall.{fall, statusByte}
+use Rattle.stages.specs.Close.{drops, after_close, after_fall}
+use Rattle.select.specs.Fall.{fall, status_byte}
 use Rattle.select.specs.Rise.{rise}
 use Rattle.select.specs.declared.notes.Note.TheVariants.{Nothing, Latch, PowerLost}
 use Rattle.select.specs.declared.rise.Seen.{Seen}
 use Rattle.select.specs.declared.rise.Risen.{Risen}
-use Rattle.stages.specs.Wp.{line_of, isUp}
+use Rattle.stages.specs.Wp.{line_of, is_up}
 use Rattle.stages.specs.declared.stage.Line.{Line}
 use Rattle.stages.specs.declared.stage.Stage.{Stage}
-use Rattle.pins.specs.Levels.{atRest, holdHigh, csLevel}
+use Rattle.pins.specs.Levels.{at_rest, hold_high, cs_level}
 use Rattle.pins.specs.declared.hold.Hold.{Hold}
 use Rattle.pins.specs.declared.hold.Hold.TheVariants.{High, LowCsLow, LowCsHigh}
 use Rattle.pins.specs.declared.state.State.{State}
@@ -32,20 +32,20 @@ with s sck si wp hold latch stage =
       stage = stage;
     }
 
-abbrev pub withSck : State → Bool → State
-withSck s level = with s level s.si s.wp s.hold s.latch s.stage
+abbrev pub with_sck : State → Bool → State
+with_sck s level = with s level s.si s.wp s.hold s.latch s.stage
 
-abbrev pub withSi : State → Bool → State
-withSi s level = with s s.sck (line_of level) s.wp s.hold s.latch s.stage
+abbrev pub with_si : State → Bool → State
+with_si s level = with s s.sck (line_of level) s.wp s.hold s.latch s.stage
 
-abbrev pub withWp : State → Bool → State
-withWp s level = with s s.sck s.si (line_of level) s.hold s.latch s.stage
+abbrev pub with_wp : State → Bool → State
+with_wp s level = with s s.sck s.si (line_of level) s.hold s.latch s.stage
 
-abbrev pub withHold : State → Hold → State
-withHold s hold = with s s.sck s.si s.wp hold s.latch s.stage
+abbrev pub with_hold : State → Hold → State
+with_hold s hold = with s s.sck s.si s.wp hold s.latch s.stage
 
-abbrev pub withStage : State → Bool → Stage → State
-withStage s latch stage = with s s.sck s.si s.wp s.hold latch stage
+abbrev pub with_stage : State → Bool → Stage → State
+with_stage s latch stage = with s s.sck s.si s.wp s.hold latch stage
 
 -- a state, with the note nothing
 abbrev pub silent : State → Moved
@@ -53,23 +53,23 @@ silent s = record { state = s; note = Nothing }
 
 -- "A seen fall of /CS opens a select", "SCK may stand high or low at the fall (modes 0 and 3)." "the next fall of /S wakes the
 --  chip"
-unfoldable pub csFall : Figure → State → Moved
-csFall f s = silent (cond (holdHigh s.hold) (withStage s s.latch (afterFall f (isUp s.wp) s.stage)) (withHold s LowCsLow))
+unfoldable pub cs_fall : Figure → State → Moved
+cs_fall f s = silent (cond (hold_high s.hold) (with_stage s s.latch (after_fall f (is_up s.wp) s.stage)) (with_hold s LowCsLow))
 
 -- "a seen rise closes it and releases SO". "The note then is latch 0 if the latch was set, else nothing." "SLEEP B9h takes effect
 --  at the rise of /S"
 abbrev pub closed : State → Moved
 closed s =
     cond (s.latch && drops s.stage)
-    (record { state = withStage s false (afterClose s.stage); note = Latch false })
-    (silent (withStage s s.latch (afterClose s.stage)))
+    (record { state = with_stage s false (after_close s.stage); note = Latch false })
+    (silent (with_stage s s.latch (after_close s.stage)))
 
-unfoldable pub csRise : State → Moved
-csRise s = cond (holdHigh s.hold) (closed s) (silent (withHold s LowCsHigh))
+unfoldable pub cs_rise : State → Moved
+cs_rise s = cond (hold_high s.hold) (closed s) (silent (with_hold s LowCsHigh))
 
 -- "Each seen rise of SCK in an open select takes SI"
-abbrev pub seenBy : State → Seen
-seenBy s = record { latch = s.latch; kept = s.kept; wp = isUp s.wp; si = isUp s.si }
+abbrev pub seen_by : State → Seen
+seen_by s = record { latch = s.latch; kept = s.kept; wp = is_up s.wp; si = is_up s.si }
 
 abbrev pub rose : State → Risen → Moved
 rose s r =
@@ -89,37 +89,37 @@ rose s r =
       note = r.note;
     }
 
-unfoldable pub sckRise : Figure → State → Moved
-sckRise f s = cond (holdHigh s.hold) (rose s (rise f (seenBy s) s.stage)) (silent (withSck s true))
+unfoldable pub sck_rise : Figure → State → Moved
+sck_rise f s = cond (hold_high s.hold) (rose s (rise f (seen_by s) s.stage)) (silent (with_sck s true))
 
 -- "Output moves on a seen fall of SCK"
 abbrev pub shown : Figure → List ℕ → List ℕ → State → Stage
-shown f serial xs s = fall f serial xs (statusByte f s.kept s.latch) s.stage
+shown f serial xs s = fall f serial xs (status_byte f s.kept s.latch) s.stage
 
-unfoldable pub sckFall : Figure → List ℕ → List ℕ → State → Moved
-sckFall f serial xs s =
-    silent (cond (holdHigh s.hold) (withStage (withSck s false) s.latch (shown f serial xs s)) (withSck s false))
+unfoldable pub sck_fall : Figure → List ℕ → List ℕ → State → Moved
+sck_fall f serial xs s =
+    silent (cond (hold_high s.hold) (with_stage (with_sck s false) s.latch (shown f serial xs s)) (with_sck s false))
 
 -- "only their levels kept"
-unfoldable pub holdFall : State → Moved
-holdFall s = silent (withHold s (cond (csLevel s) LowCsHigh LowCsLow))
+unfoldable pub hold_fall : State → Moved
+hold_fall s = silent (with_hold s (cond (cs_level s) LowCsHigh LowCsLow))
 
 -- moves are seen again
-unfoldable pub holdRise : State → Moved
-holdRise s = silent (withHold s High)
+unfoldable pub hold_rise : State → Moved
+hold_rise s = silent (with_hold s High)
 
 -- SI and /WP have a level and no more: one rule for both edges. "Its level is followed at all times with power on,
 -- during hold too."
-abbrev pub siTo : State → Bool → Moved
-siTo s level = silent (withSi s level)
+abbrev pub si_to : State → Bool → Moved
+si_to s level = silent (with_si s level)
 
-abbrev pub wpTo : State → Bool → Moved
-wpTo s level = silent (withWp s level)
+abbrev pub wp_to : State → Bool → Moved
+wp_to s level = silent (with_wp s level)
 
 -- "Event 10 with power on gives the note power lost and the off state"
-abbrev pub vddFall : State → Moved
-vddFall s = record { state = atRest s.part s.kept false; note = PowerLost }
+abbrev pub vdd_fall : State → Moved
+vdd_fall s = record { state = at_rest s.part s.kept false; note = PowerLost }
 
 -- "Event 11 then gives the power-up state, with the note nothing."
-abbrev pub vddRise : State → Moved
-vddRise s = silent (atRest s.part s.kept true)
+abbrev pub vdd_rise : State → Moved
+vdd_rise s = silent (at_rest s.part s.kept true)

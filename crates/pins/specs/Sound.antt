@@ -2,22 +2,22 @@
 -- the part's size, a partial byte or bit count that no number of clocks gives, or power off in another form than the off
 -- state." Assumes nothing.
 use Rattle.std.specs.Prelude.{Bool, not, ◌&&◌, ◌||◌}
-use Rattle.parts.specs.Figures.{figureOf, isPart, underMask}
+use Rattle.parts.specs.Figures.{figure_of, is_part, under_mask}
 use Rattle.parts.specs.declared.figures.Figure.{Figure}
-use Rattle.stages.specs.Close.{isClosed, isAsleep}
-use Rattle.stages.specs.Sound.{soundStage}
-use Rattle.stages.specs.Wp.{isUp}
-use Rattle.pins.specs.Levels.{holdHigh}
+use Rattle.stages.specs.Close.{is_closed, is_asleep}
+use Rattle.stages.specs.Sound.{sound_stage}
+use Rattle.stages.specs.Wp.{is_up}
+use Rattle.pins.specs.Levels.{hold_high}
 use Rattle.pins.specs.declared.state.State.{State}
 
 -- every line and bit but the kept ones as at power-up
 unfoldable pub rests : State → Bool
 rests s =
-    not s.sck && not (isUp s.si) && isUp s.wp && not s.latch && holdHigh s.hold && isClosed s.stage && not (isAsleep s.stage)
+    not s.sck && not (is_up s.si) && is_up s.wp && not s.latch && hold_high s.hold && is_closed s.stage && not (is_asleep s.stage)
 
 -- by the figures of the state's part
-abbrev pub soundBy : Figure → State → Bool
-soundBy f s = isPart s.part && underMask f s.kept && soundStage f s.stage && (s.power || rests s)
+abbrev pub sound_by : Figure → State → Bool
+sound_by f s = is_part s.part && under_mask f s.kept && sound_stage f s.stage && (s.power || rests s)
 
 unfoldable pub sound : State → Bool
-sound s = soundBy (figureOf s.part) s
+sound s = sound_by (figure_of s.part) s

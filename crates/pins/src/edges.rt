@@ -1,7 +1,7 @@
 // The pins' edges, each a method that hands back the next state with the note. The edges of /CS and SCK build what they
 // hand back in place, and not by `silent`: time it before you change that (docs/SPEED.md).
 ghost use Rattle.std.specs.Prelude.{true, false, ◌≡◌};
-ghost use Rattle.pins.specs.Edges.{silent, csFall, csRise, sckRise, sckFall, siTo, holdFall, holdRise, wpTo, vddFall, vddRise};
+ghost use Rattle.pins.specs.Edges.{silent, cs_fall, cs_rise, sck_rise, sck_fall, si_to, hold_fall, hold_rise, wp_to, vdd_fall, vdd_rise};
 
 use crate::hold::{Hold, hold_high};
 use crate::state::{Moved, State};
@@ -26,7 +26,7 @@ impl State {
 
     // A select opens, or the chip wakes; in hold only the level moves.
     pub fn cs_fall(self, f: Figure) -> Moved
-        ensures { result ≡ csFall f self }
+        ensures { result ≡ cs_fall f self }
     {
         let hold = self.hold;
         let stage = self.stage;
@@ -55,7 +55,7 @@ impl State {
 
     // The select closes, and the latch may drop or the chip fall asleep; in hold only the level moves.
     pub fn cs_rise(self) -> Moved
-        ensures { result ≡ csRise self }
+        ensures { result ≡ cs_rise self }
     {
         let hold = self.hold;
         let stage = self.stage;
@@ -96,7 +96,7 @@ impl State {
 
     // A select takes a bit.
     pub fn sck_rise(self, f: Figure) -> Moved
-        ensures { result ≡ sckRise f self }
+        ensures { result ≡ sck_rise f self }
     {
         let hold = self.hold;
         let stage = self.stage;
@@ -131,7 +131,7 @@ impl State {
 
     // A select may show a bit.
     pub fn sck_fall(self, f: Figure, array: &[u8], serial: &[u8]) -> Moved
-        ensures { result ≡ sckFall f serial.now array.now self }
+        ensures { result ≡ sck_fall f serial.now array.now self }
     {
         let hold = self.hold;
         let stage = self.stage;
@@ -158,7 +158,7 @@ impl State {
 
     // SI has a level and no more.
     pub fn si_rise(self) -> Moved
-        ensures { result ≡ siTo self true }
+        ensures { result ≡ si_to self true }
     {
         let state = State {
             si: Line::Up,
@@ -168,7 +168,7 @@ impl State {
     }
 
     pub fn si_fall(self) -> Moved
-        ensures { result ≡ siTo self false }
+        ensures { result ≡ si_to self false }
     {
         let state = State {
             si: Line::Down,
@@ -179,7 +179,7 @@ impl State {
 
     // From here on moves of SCK and /CS are not seen.
     pub fn hold_fall(self) -> Moved
-        ensures { result ≡ holdFall self }
+        ensures { result ≡ hold_fall self }
     {
         if self.cs() {
             let state = State {
@@ -197,7 +197,7 @@ impl State {
     }
 
     pub fn hold_rise(self) -> Moved
-        ensures { result ≡ holdRise self }
+        ensures { result ≡ hold_rise self }
     {
         let state = State {
             hold: Hold::High,
@@ -208,7 +208,7 @@ impl State {
 
     // /WP has a level and no more.
     pub fn wp_rise(self) -> Moved
-        ensures { result ≡ wpTo self true }
+        ensures { result ≡ wp_to self true }
     {
         let state = State {
             wp: Line::Up,
@@ -218,7 +218,7 @@ impl State {
     }
 
     pub fn wp_fall(self) -> Moved
-        ensures { result ≡ wpTo self false }
+        ensures { result ≡ wp_to self false }
     {
         let state = State {
             wp: Line::Down,
@@ -229,7 +229,7 @@ impl State {
 
     // Power is cut.
     pub fn vdd_fall(self) -> Moved
-        ensures { result ≡ vddFall self }
+        ensures { result ≡ vdd_fall self }
     {
         Moved {
             state: State::at_rest(self.part, self.kept, false),
@@ -239,7 +239,7 @@ impl State {
 
     // Power returns.
     pub fn vdd_rise(self) -> Moved
-        ensures { result ≡ vddRise self }
+        ensures { result ≡ vdd_rise self }
     {
         let state = State::at_rest(self.part, self.kept, true);
         state.silent()

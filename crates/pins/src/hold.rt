@@ -1,6 +1,6 @@
 // /HOLD. While it is low, moves of SCK and /CS are not seen, and only their levels are kept.
 ghost use Rattle.std.specs.Prelude.{◌≡◌};
-ghost use Rattle.pins.specs.Levels.{holdHigh};
+ghost use Rattle.pins.specs.Levels.{hold_high};
 
 // The level of /HOLD; where it is low, with the level of /CS, whose moves are not seen then.
 #[derive(Drop)]
@@ -12,7 +12,7 @@ pub enum Hold {
 
 // Whether /HOLD is high.
 pub fn hold_high(hold: Hold) -> bool
-    ensures { result ≡ holdHigh hold }
+    ensures { result ≡ hold_high hold }
 {
     match hold {
         Hold::High => true,

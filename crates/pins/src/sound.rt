@@ -1,6 +1,6 @@
 // The soundness test. docs/SOUNDNESS.md states its conditions on the state's fields.
 ghost use Rattle.std.specs.Prelude.{◌≡◌};
-ghost use Rattle.pins.specs.Sound.{rests, soundBy, sound};
+ghost use Rattle.pins.specs.Sound.{rests, sound_by, sound};
 
 use crate::hold::hold_high;
 use crate::state::State;
@@ -29,7 +29,7 @@ fn rests(s: State) -> bool
 // The test by figures that the caller has read. Power off has one form, the off state. One test after the other: with power
 // on, whether the lines rest is not asked (docs/SPEED.md).
 pub fn sound_by(f: Figure, s: State) -> bool
-    ensures { result ≡ soundBy f s }
+    ensures { result ≡ sound_by f s }
 {
     let stage = s.stage;
     if !is_part(s.part as u64) {

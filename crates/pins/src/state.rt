@@ -1,6 +1,6 @@
 // The chip's state. It goes in by value and comes back by value.
 ghost use Rattle.std.specs.Prelude.{◌≡◌};
-ghost use Rattle.pins.specs.Levels.{atRest, csLevel, soLevel};
+ghost use Rattle.pins.specs.Levels.{at_rest, cs_level, so_level};
 
 use crate::hold::Hold;
 use select::fall::stage_level;
@@ -33,7 +33,7 @@ pub struct Moved {
 impl State {
     // The state at power-up; with no power, the off state.
     pub fn at_rest(part: u8, kept: u8, power: bool) -> State
-        ensures { result ≡ atRest part kept power }
+        ensures { result ≡ at_rest part kept power }
     {
         State {
             part,
@@ -50,7 +50,7 @@ impl State {
 
     // The level of /CS.
     pub fn cs(self) -> bool
-        ensures { result ≡ csLevel self }
+        ensures { result ≡ cs_level self }
     {
         let hold = self.hold;
         let stage = self.stage;
@@ -63,7 +63,7 @@ impl State {
 
     // The level of SO.
     pub fn so(self) -> Level
-        ensures { result ≡ soLevel self }
+        ensures { result ≡ so_level self }
     {
         let hold = self.hold;
         let stage = self.stage;

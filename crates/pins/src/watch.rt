@@ -1,6 +1,6 @@
 // What a bench sees of a state besides the answers: whether a select is open, and whether an event is a seen rise.
 ghost use Rattle.std.specs.Prelude.{◌≡◌};
-ghost use Rattle.pins.specs.Watch.{isOpen, seesRise};
+ghost use Rattle.pins.specs.Watch.{is_open, sees_rise};
 
 use crate::hold::hold_high;
 use crate::state::State;
@@ -8,7 +8,7 @@ use stages::close::is_closed;
 
 // Whether a select is open.
 pub fn is_open(s: State) -> bool
-    ensures { result ≡ isOpen s }
+    ensures { result ≡ is_open s }
 {
     let stage = s.stage;
     !is_closed(stage)
@@ -16,7 +16,7 @@ pub fn is_open(s: State) -> bool
 
 // Whether this event is a seen rise of SCK in an open select.
 pub fn sees_rise(s: State, code: u64) -> bool
-    ensures { result ≡ seesRise s code }
+    ensures { result ≡ sees_rise s code }
 {
     let hold = s.hold;
     s.power & hold_high(hold) & is_open(s) & !s.sck & (code == 3)

@@ -7,10 +7,10 @@ use Rattle.std.proofs.Math.Nat.{mod_self, mod-mod, suc-mod, add-mod_right, div-e
 use native.Mathlib.Omega.{arith}
 use Rattle.std.proofs.lemmas.Bool.{eqb-false}
 use Rattle.std.proofs.lemmas.List.{set_comm}
-use Rattle.pulses.specs.Sums.{put, one, fillBytes, stores, least, before, storedIn, lastPut, lastIn, lastStored}
+use Rattle.pulses.specs.Sums.{put, one, fill_bytes, stores, least, before, stored_in, last_put, last_in, last_stored}
 
-pub put-length : (limit byte : ℕ) (xs : List ℕ) (at : ℕ) → length (put limit byte xs at) ≡ length xs
-put-length limit byte xs at = go (ltb at limit)
+pub put_length : (limit byte : ℕ) (xs : List ℕ) (at : ℕ) → length (put limit byte xs at) ≡ length xs
+put_length limit byte xs at = go (ltb at limit)
   where
     go : (v : Bool) → length (cond v (set xs at byte) xs) ≡ length xs
     go true = length-set xs at byte
@@ -28,22 +28,22 @@ module _ (size limit byte : ℕ) where
       go true e = ap (λ (k : ℕ). set (set xs k byte) i byte) (eqb-true j i e) ∙ set-set xs i byte byte ∙ ap (λ (k : ℕ). set xs k byte) (sym (eqb-true j i e))
       go false e = set_comm xs j i byte byte (eqb-false j i e) ∙ ap (λ (ys : List ℕ). set ys j byte) h
 
-  stands-put : (xs : List ℕ) (i j : ℕ) → Stands xs i → Stands (put limit byte xs j) i
-  stands-put xs i j h = go (ltb j limit)
+  stands_put : (xs : List ℕ) (i j : ℕ) → Stands xs i → Stands (put limit byte xs j) i
+  stands_put xs i j h = go (ltb j limit)
     where
       go : (v : Bool) → Stands (cond v (set xs j byte) xs) i
       go true = stands_set xs i j h
       go false = h
 
-  stands-fill : (n x : ℕ) (xs : List ℕ) (i : ℕ) → Stands xs i → Stands (fillBytes size limit byte n x xs) i
-  stands-fill zero x xs i h = h
-  stands-fill (suc n) x xs i h = stands-fill n (suc x) (put limit byte xs (x % size)) i (stands-put xs i (x % size) h)
+  stands_fill : (n x : ℕ) (xs : List ℕ) (i : ℕ) → Stands xs i → Stands (fill_bytes size limit byte n x xs) i
+  stands_fill zero x xs i h = h
+  stands_fill (suc n) x xs i h = stands_fill n (suc x) (put limit byte xs (x % size)) i (stands_put xs i (x % size) h)
 
   -- byte number j of them stands
-  stands_at : (n j x : ℕ) (xs : List ℕ) → j < n → (x + j) % size < limit → Stands (fillBytes size limit byte n x xs) ((x + j) % size)
+  stands_at : (n j x : ℕ) (xs : List ℕ) → j < n → (x + j) % size < limit → Stands (fill_bytes size limit byte n x xs) ((x + j) % size)
   stands_at zero j x xs h l = absurd (omega arith)
   stands_at (suc n) zero x xs h l =
-      stands-fill n (suc x) (put limit byte xs (x % size)) ((x + 0) % size)
+      stands_fill n (suc x) (put limit byte xs (x % size)) ((x + 0) % size)
       (rw (add-zero x, lt-ltb (x % size) limit (rw (add-zero x) at l)) (set-set xs (x % size) byte byte))
   stands_at (suc n) (suc j) x xs h l =
       rw (next x j) (stands_at n j (suc x) (put limit byte xs (x % size)) (omega arith) (rw (← next x j) l))
@@ -55,53 +55,53 @@ module _ (size limit byte : ℕ) where
   abbrev AllStand : List ℕ → Type 0
   AllStand xs = (i : ℕ) → i < size → i < limit → Stands xs i
 
-  no_more : 0 < size → (n x : ℕ) (xs : List ℕ) → AllStand xs → fillBytes size limit byte n x xs ≡ xs
+  no_more : 0 < size → (n x : ℕ) (xs : List ℕ) → AllStand xs → fill_bytes size limit byte n x xs ≡ xs
   no_more some zero x xs all = refl
-  no_more some (suc n) x xs all = ap (fillBytes size limit byte n (suc x)) (same (ltb (x % size) limit) refl) ∙ no_more some n (suc x) xs all
+  no_more some (suc n) x xs all = ap (fill_bytes size limit byte n (suc x)) (same (ltb (x % size) limit) refl) ∙ no_more some n (suc x) xs all
     where
       same : (v : Bool) → ltb (x % size) limit ≡ v → cond v (set xs (x % size) byte) xs ≡ xs
       same true e = all (x % size) (mod-lt x some) (ltb-true (x % size) limit e)
       same false e = refl
 
-  fill-add : (m n x : ℕ) (xs : List ℕ) → fillBytes size limit byte (m + n) x xs ≡ fillBytes size limit byte n (x + m) (fillBytes size limit byte m x xs)
-  fill-add zero n x xs = (λ i. fillBytes size limit byte (zero-plus n i) (sym (add-zero x) i) xs)
+  fill_add : (m n x : ℕ) (xs : List ℕ) → fill_bytes size limit byte (m + n) x xs ≡ fill_bytes size limit byte n (x + m) (fill_bytes size limit byte m x xs)
+  fill_add zero n x xs = (λ i. fill_bytes size limit byte (zero_plus n i) (sym (add-zero x) i) xs)
     where
-      zero-plus : (n : ℕ) → 0 + n ≡ n
-      zero-plus n = omega arith
-  fill-add (suc m) n x xs =
-      ap (λ (k : ℕ). fillBytes size limit byte k x xs) (suc-add m n)
-      ∙ fill-add m n (suc x) (put limit byte xs (x % size))
-      ∙ ap (λ (k : ℕ). fillBytes size limit byte n k (fillBytes size limit byte m (suc x) (put limit byte xs (x % size)))) (next x m)
+      zero_plus : (n : ℕ) → 0 + n ≡ n
+      zero_plus n = omega arith
+  fill_add (suc m) n x xs =
+      ap (λ (k : ℕ). fill_bytes size limit byte k x xs) (suc-add m n)
+      ∙ fill_add m n (suc x) (put limit byte xs (x % size))
+      ∙ ap (λ (k : ℕ). fill_bytes size limit byte n k (fill_bytes size limit byte m (suc x) (put limit byte xs (x % size)))) (next x m)
     where
       next : (x j : ℕ) → suc x + j ≡ x + suc j
       next x j = omega arith
 
   -- a place and its address give the same
-  fill-wraps : (n x y : ℕ) (xs : List ℕ) → x % size ≡ y % size → fillBytes size limit byte n x xs ≡ fillBytes size limit byte n y xs
-  fill-wraps zero x y xs e = refl
-  fill-wraps (suc n) x y xs e =
-      ap (λ (k : ℕ). fillBytes size limit byte n (suc x) (put limit byte xs k)) e
-      ∙ fill-wraps n (suc x) (suc y) (put limit byte xs (y % size)) (suc-mod x size ∙ ap (λ (k : ℕ). suc k % size) e ∙ sym (suc-mod y size))
+  fill_wraps : (n x y : ℕ) (xs : List ℕ) → x % size ≡ y % size → fill_bytes size limit byte n x xs ≡ fill_bytes size limit byte n y xs
+  fill_wraps zero x y xs e = refl
+  fill_wraps (suc n) x y xs e =
+      ap (λ (k : ℕ). fill_bytes size limit byte n (suc x) (put limit byte xs k)) e
+      ∙ fill_wraps n (suc x) (suc y) (put limit byte xs (y % size)) (suc-mod x size ∙ ap (λ (k : ℕ). suc k % size) e ∙ sym (suc-mod y size))
 
   -- one byte, and the others
   pub fill_on : (n at next : ℕ) (xs ys : List ℕ) → at < size → 0 < n → next ≡ (at + 1) % size → ys ≡ put limit byte xs at
-      → fillBytes size limit byte (n - 1) next ys ≡ fillBytes size limit byte n at xs
+      → fill_bytes size limit byte (n - 1) next ys ≡ fill_bytes size limit byte n at xs
   fill_on zero at next xs ys h some is puts = absurd (omega arith)
   fill_on (suc n) at next xs ys h some is puts =
-      (λ i. fillBytes size limit byte (less n i) (is i) (puts i))
-      ∙ fill-wraps n ((at + 1) % size) (suc at) (put limit byte xs at) (mod-mod (at + 1) size ∙ ap (λ (k : ℕ). k % size) (add-one at))
-      ∙ ap (λ (k : ℕ). fillBytes size limit byte n (suc at) (put limit byte xs k)) (sym (mod-eq_of_lt h))
+      (λ i. fill_bytes size limit byte (less n i) (is i) (puts i))
+      ∙ fill_wraps n ((at + 1) % size) (suc at) (put limit byte xs at) (mod-mod (at + 1) size ∙ ap (λ (k : ℕ). k % size) (add-one at))
+      ∙ ap (λ (k : ℕ). fill_bytes size limit byte n (suc at) (put limit byte xs k)) (sym (mod-eq_of_lt h))
     where
       less : (n : ℕ) → suc n - 1 ≡ n
       less n = omega arith
 
   -- no byte is left
-  pub fill-over : (n at : ℕ) (xs : List ℕ) → n ≤ 0 → xs ≡ fillBytes size limit byte n at xs
-  fill-over zero at xs h = refl
-  fill-over (suc n) at xs h = absurd (omega arith)
+  pub fill_over : (n at : ℕ) (xs : List ℕ) → n ≤ 0 → xs ≡ fill_bytes size limit byte n at xs
+  fill_over zero at xs h = refl
+  fill_over (suc n) at xs h = absurd (omega arith)
 
   -- a round from any place goes over every address
-  round : (at : ℕ) (xs : List ℕ) → at < size → AllStand (fillBytes size limit byte size at xs)
+  round : (at : ℕ) (xs : List ℕ) → at < size → AllStand (fill_bytes size limit byte size at xs)
   round at xs h i inside below = go (ltb i at) refl
     where
       later : (at i : ℕ) → at ≤ i → at + (i - at) ≡ i
@@ -110,10 +110,10 @@ module _ (size limit byte : ℕ) where
       wraps : (at i size : ℕ) → i < at → at < size → at + (i + size - at) ≡ i + size
       wraps at i size l k = omega arith
 
-      here : (j : ℕ) → j < size → (at + j) % size ≡ i → Stands (fillBytes size limit byte size at xs) i
+      here : (j : ℕ) → j < size → (at + j) % size ≡ i → Stands (fill_bytes size limit byte size at xs) i
       here j short is = rw (← is) (stands_at size j at xs short (rw is below))
 
-      go : (v : Bool) → ltb i at ≡ v → Stands (fillBytes size limit byte size at xs) i
+      go : (v : Bool) → ltb i at ≡ v → Stands (fill_bytes size limit byte size at xs) i
       go true e =
           let l : i < at = ltb-true i at e in
           here (i + size - at) (omega arith) (ap (λ (k : ℕ). k % size) (wraps at i size l h) ∙ add-mod_right i size ∙ mod-eq_of_lt inside)
@@ -122,36 +122,36 @@ module _ (size limit byte : ℕ) where
           here (i - at) (omega arith) (ap (λ (k : ℕ). k % size) (later at i l) ∙ mod-eq_of_lt inside)
 
   -- past a round of the array
-  fill-most : (n at : ℕ) (xs : List ℕ) → at < size → size ≤ n → fillBytes size limit byte size at xs ≡ fillBytes size limit byte n at xs
-  fill-most n at xs h l =
-      sym (no_more (omega arith) (n - size) (at + size) (fillBytes size limit byte size at xs) (round at xs h))
-      ∙ sym (fill-add size (n - size) at xs)
-      ∙ ap (λ (k : ℕ). fillBytes size limit byte k at xs) (total n size l)
+  fill_most : (n at : ℕ) (xs : List ℕ) → at < size → size ≤ n → fill_bytes size limit byte size at xs ≡ fill_bytes size limit byte n at xs
+  fill_most n at xs h l =
+      sym (no_more (omega arith) (n - size) (at + size) (fill_bytes size limit byte size at xs) (round at xs h))
+      ∙ sym (fill_add size (n - size) at xs)
+      ∙ ap (λ (k : ℕ). fill_bytes size limit byte k at xs) (total n size l)
     where
       total : (n size : ℕ) → size ≤ n → size + (n - size) ≡ n
       total n size h = omega arith
 
-  pub fill-least : (n at : ℕ) (xs : List ℕ) → at < size → fillBytes size limit byte (least size n) at xs ≡ fillBytes size limit byte n at xs
-  fill-least n at xs h = go (ltb size n) refl
+  pub fill_least : (n at : ℕ) (xs : List ℕ) → at < size → fill_bytes size limit byte (least size n) at xs ≡ fill_bytes size limit byte n at xs
+  fill_least n at xs h = go (ltb size n) refl
     where
-      go : (v : Bool) → ltb size n ≡ v → fillBytes size limit byte (cond v size n) at xs ≡ fillBytes size limit byte n at xs
-      go true e = fill-most n at xs h (omega (arith, ltb-true size n e))
+      go : (v : Bool) → ltb size n ≡ v → fill_bytes size limit byte (cond v size n) at xs ≡ fill_bytes size limit byte n at xs
+      go true e = fill_most n at xs h (omega (arith, ltb-true size n e))
       go false e = refl
 
 -- ---- how many are stored
 
 module _ (size limit : ℕ) (some : 0 < size) (fits : limit ≤ size) where
   -- a place's round and address
-  round-stays : (x : ℕ) → suc (x % size) < size → (suc x / size ≡ x / size) × (suc x % size ≡ suc (x % size))
-  round-stays x l = (
+  round_stays : (x : ℕ) → suc (x % size) < size → (suc x / size ≡ x / size) × (suc x % size ≡ suc (x % size))
+  round_stays x l = (
     div-eq_of_lt-le {k = x / size} size {m = suc x}
         (omega (arith, div-add-mod' x size))
         (omega (arith, div-add-mod' x size, add-mul (x / size) 1 size)),
     suc-mod x size ∙ mod-eq_of_lt l,
   )
 
-  round-ends : (x : ℕ) → suc (x % size) ≡ size → (suc x / size ≡ x / size + 1) × (suc x % size ≡ 0)
-  round-ends x e = (
+  round_ends : (x : ℕ) → suc (x % size) ≡ size → (suc x / size ≡ x / size + 1) × (suc x % size ≡ 0)
+  round_ends x e = (
     div-eq_of_lt-le {k = x / size + 1} size {m = suc x}
         (omega (arith, div-add-mod' x size, add-mul (x / size) 1 size))
         (omega (arith, div-add-mod' x size, add-mul (x / size) 1 size, add-mul (x / size + 1) 1 size)),
@@ -174,22 +174,22 @@ module _ (size limit : ℕ) (some : 0 < size) (fits : limit ≤ size) where
       go true d = omega (arith, ltb-true r limit d)
       go false d = omega arith
 
-  before-suc : (x : ℕ) → before size limit (suc x) ≡ before size limit x + one limit (x % size)
+  before_suc : (x : ℕ) → before size limit (suc x) ≡ before size limit x + one limit (x % size)
   unfolding before
-  before-suc x = ⊎_elim last inner (eq-or-lt_of_le (mod-lt x some))
+  before_suc x = ⊎_elim last inner (eq-or-lt_of_le (mod-lt x some))
     where
       plus : (a b c : ℕ) → a + (b + c) ≡ a + b + c
       plus a b c = omega arith
 
       inner : suc (x % size) < size → suc x / size * limit + least (suc x % size) limit ≡ x / size * limit + least (x % size) limit + one limit (x % size)
       inner l =
-          (λ i. (round-stays x l).0 i * limit + least ((round-stays x l).1 i) limit)
+          (λ i. (round_stays x l).0 i * limit + least ((round_stays x l).1 i) limit)
           ∙ ap (λ (k : ℕ). x / size * limit + k) (grows (x % size) l)
           ∙ plus (x / size * limit) (least (x % size) limit) (one limit (x % size))
 
       last : suc (x % size) ≡ size → suc x / size * limit + least (suc x % size) limit ≡ x / size * limit + least (x % size) limit + one limit (x % size)
       last e =
-          (λ i. (round-ends x e).0 i * limit + least ((round-ends x e).1 i) limit)
+          (λ i. (round_ends x e).0 i * limit + least ((round_ends x e).1 i) limit)
           ∙ whole (ltb 0 limit) refl
           ∙ ap (λ (k : ℕ). x / size * limit + k) (full (x % size) e)
           ∙ plus (x / size * limit) (least (x % size) limit) (one limit (x % size))
@@ -198,15 +198,15 @@ module _ (size limit : ℕ) (some : 0 < size) (fits : limit ≤ size) where
           whole true d = omega (arith, add-mul (x / size) 1 limit)
           whole false d = omega (arith, add-mul (x / size) 1 limit, ltb-false 0 limit d)
 
-  stores-sum : (n x : ℕ) → stores size limit n x + before size limit x ≡ before size limit (x + n)
-  stores-sum zero x = zero-plus (before size limit x) ∙ ap (before size limit) (sym (add-zero x))
+  stores_sum : (n x : ℕ) → stores size limit n x + before size limit x ≡ before size limit (x + n)
+  stores_sum zero x = zero_plus (before size limit x) ∙ ap (before size limit) (sym (add-zero x))
     where
-      zero-plus : (n : ℕ) → 0 + n ≡ n
-      zero-plus n = omega arith
-  stores-sum (suc n) x =
+      zero_plus : (n : ℕ) → 0 + n ≡ n
+      zero_plus n = omega arith
+  stores_sum (suc n) x =
       swap (one limit (x % size)) (stores size limit n (suc x)) (before size limit x)
-      ∙ ap (λ (k : ℕ). stores size limit n (suc x) + k) (sym (before-suc x))
-      ∙ stores-sum n (suc x)
+      ∙ ap (λ (k : ℕ). stores size limit n (suc x) + k) (sym (before_suc x))
+      ∙ stores_sum n (suc x)
       ∙ ap (before size limit) (next x n)
     where
       swap : (a b c : ℕ) → a + b + c ≡ b + (c + a)
@@ -215,46 +215,46 @@ module _ (size limit : ℕ) (some : 0 < size) (fits : limit ≤ size) where
       next : (x j : ℕ) → suc x + j ≡ x + suc j
       next x j = omega arith
 
-  pub stored-in : (n x : ℕ) → storedIn size limit x n ≡ stores size limit n x
-  stored-in n x = less (stores size limit n x) (before size limit x) (before size limit (x + n)) (stores-sum n x)
+  pub stored_in_lem : (n x : ℕ) → stored_in size limit x n ≡ stores size limit n x
+  stored_in_lem n x = less (stores size limit n x) (before size limit x) (before size limit (x + n)) (stores_sum n x)
     where
       less : (a b c : ℕ) → a + b ≡ c → c - b ≡ a
       less a b c h = omega arith
 
-  stores-few : (n x : ℕ) → stores size limit n x ≤ n
-  stores-few zero x = omega arith
-  stores-few (suc n) x = go (ltb (x % size) limit) (stores-few n (suc x))
+  stores_few : (n x : ℕ) → stores size limit n x ≤ n
+  stores_few zero x = omega arith
+  stores_few (suc n) x = go (ltb (x % size) limit) (stores_few n (suc x))
     where
       go : (v : Bool) → stores size limit n (suc x) ≤ n → cond v 1 0 + stores size limit n (suc x) ≤ suc n
       go true h = omega arith
       go false h = omega arith
 
   -- it is no more than the place
-  pub rounds-fit : (x : ℕ) → x / size * limit ≤ x
-  rounds-fit x = le_trans (mul-le-mul_left (x / size) fits) (div-mul-le_self x size)
+  pub rounds_fit : (x : ℕ) → x / size * limit ≤ x
+  rounds_fit x = le_trans (mul-le-mul_left (x / size) fits) (div-mul-le_self x size)
 
-  pub before-fits : (x : ℕ) → x / size * limit + least (x % size) limit ≤ x
-  before-fits x = go (ltb (x % size) limit) refl
+  pub before_fits : (x : ℕ) → x / size * limit + least (x % size) limit ≤ x
+  before_fits x = go (ltb (x % size) limit) refl
     where
       go : (v : Bool) → ltb (x % size) limit ≡ v → x / size * limit + cond v (x % size) limit ≤ x
       go true e = omega (arith, mul-le-mul_left (x / size) fits, div-add-mod' x size)
       go false e = omega (arith, mul-le-mul_left (x / size) fits, div-add-mod' x size, ltb-false (x % size) limit e)
 
   -- the difference of two such sums
-  pub stored-asks : (at n : ℕ) → (before size limit at ≤ before size limit (at + n)) × (storedIn size limit at n ≤ n)
-  stored-asks at n = (omega (arith, stores-sum n at), rw (stored-in n at) (stores-few n at))
+  pub stored_asks : (at n : ℕ) → (before size limit at ≤ before size limit (at + n)) × (stored_in size limit at n ≤ n)
+  stored_asks at n = (omega (arith, stores_sum n at), rw (stored_in_lem n at) (stores_few n at))
 
   -- ---- and which one last
 
   -- one more byte
-  stores-more : (n x : ℕ) → stores size limit (suc n) x ≡ stores size limit n x + one limit ((x + n) % size)
-  stores-more n x = omega (arith, stores-sum (suc n) x, stores-sum n x, ap (before size limit) (add-suc x n), before-suc (x + n))
+  stores_more : (n x : ℕ) → stores size limit (suc n) x ≡ stores size limit n x + one limit ((x + n) % size)
+  stores_more n x = omega (arith, stores_sum (suc n) x, stores_sum n x, ap (before size limit) (add-suc x n), before_suc (x + n))
 
-  last_more : (n x last : ℕ) → lastIn size limit (suc n) x last ≡ lastPut limit (lastIn size limit n x last) ((x + n) % size)
-  last_more zero x last = ap (λ (k : ℕ). lastPut limit last (k % size)) (sym (add-zero x))
+  last_more : (n x last : ℕ) → last_in size limit (suc n) x last ≡ last_put limit (last_in size limit n x last) ((x + n) % size)
+  last_more zero x last = ap (λ (k : ℕ). last_put limit last (k % size)) (sym (add-zero x))
   last_more (suc n) x last =
-      last_more n (suc x) (lastPut limit last (x % size))
-      ∙ ap (λ (k : ℕ). lastPut limit (lastIn size limit (suc n) x last) (k % size)) (next x n)
+      last_more n (suc x) (last_put limit last (x % size))
+      ∙ ap (λ (k : ℕ). last_put limit (last_in size limit (suc n) x last) (k % size)) (next x n)
     where
       next : (x j : ℕ) → suc x + j ≡ x + suc j
       next x j = omega arith
@@ -267,25 +267,25 @@ module _ (size limit : ℕ) (some : 0 < size) (fits : limit ≤ size) where
   after x = ⊎_elim ends stays (eq-or-lt_of_le (mod-lt x some))
     where
       stays : suc (x % size) < size → last_to (suc x % size) ≡ least (suc (x % size)) limit
-      stays l = ap last_to (round-stays x l).1 ∙ rw (lt-ltb 0 (suc (x % size)) (omega arith))
+      stays l = ap last_to (round_stays x l).1 ∙ rw (lt-ltb 0 (suc (x % size)) (omega arith))
 
       ends : suc (x % size) ≡ size → last_to (suc x % size) ≡ least (suc (x % size)) limit
-      ends e = ap last_to (round-ends x e).1 ∙ rw (le-ltb (suc (x % size)) limit (omega arith))
+      ends e = ap last_to (round_ends x e).1 ∙ rw (le-ltb (suc (x % size)) limit (omega arith))
 
-  pub last_stored : (n x last : ℕ) → lastIn size limit n x last ≡ lastStored limit (stores size limit n x) ((x + n) % size) last
-  last_stored zero x last = refl
-  last_stored (suc n) x last =
+  pub last_stored_lem : (n x last : ℕ) → last_in size limit n x last ≡ last_stored limit (stores size limit n x) ((x + n) % size) last
+  last_stored_lem zero x last = refl
+  last_stored_lem (suc n) x last =
       last_more n x last
-      ∙ ap (λ (k : ℕ). lastPut limit k at) (last_stored n x last)
+      ∙ ap (λ (k : ℕ). last_put limit k at) (last_stored_lem n x last)
       ∙ go (ltb at limit) refl
-      ∙ (λ i. cond (eqb (sym (stores-more n x) i) 0) last (sym (after (x + n)) i))
-      ∙ ap (λ (k : ℕ). lastStored limit (stores size limit (suc n) x) (k % size) last) (sym (add-suc x n))
+      ∙ (λ i. cond (eqb (sym (stores_more n x) i) 0) last (sym (after (x + n)) i))
+      ∙ ap (λ (k : ℕ). last_stored limit (stores size limit (suc n) x) (k % size) last) (sym (add-suc x n))
     where
       at : ℕ
       at = (x + n) % size
 
       go : (v : Bool) → ltb at limit ≡ v
-          → cond v (at + 1) (lastStored limit (stores size limit n x) at last) ≡ cond (eqb (stores size limit n x + cond v 1 0) 0) last (least (suc at) limit)
+          → cond v (at + 1) (last_stored limit (stores size limit n x) at last) ≡ cond (eqb (stores size limit n x + cond v 1 0) 0) last (least (suc at) limit)
       go true e = rw (ne_eqb (stores size limit n x + 1) 0 (λ z. omega arith)) (own (ltb (suc at) limit) refl)
         where
           own : (w : Bool) → ltb (suc at) limit ≡ w → at + 1 ≡ cond w (suc at) limit

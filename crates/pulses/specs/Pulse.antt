@@ -1,13 +1,13 @@
 -- Pulses of SCK on the bench, one after the other (document 02, Wish 7). Assumes nothing.
 use Rattle.std.specs.Prelude.{ℕ, ◌≡◌, List, []}
-use Rattle.trace.specs.Items.{runEvents}
-use Rattle.turns.specs.Bench.{Bench, afterEvents}
+use Rattle.trace.specs.Items.{run_events}
+use Rattle.turns.specs.Bench.{Bench, after_events}
 use Rattle.turns.specs.declared.stand.Stand.{Stand}
 use Rattle.pulses.specs.declared.sums.Skipped.{Skipped}
 
 -- "pulses of SCK, up then down, SI untouched": the bench after so many
 unfoldable pub pulsed : ℕ → Bench → Bench
-pulsed n b = afterEvents b (runEvents n)
+pulsed n b = after_events b (run_events n)
 
 -- a bench that runs on, with no text since
 abbrev pub standing : Stand → List ℕ → List ℕ → Bench

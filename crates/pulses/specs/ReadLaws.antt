@@ -9,34 +9,34 @@ use Rattle.std.proofs.Math.Nat.{add-zero, mod_self, mod-add-mod}
 use native.Mathlib.Omega.{arith}
 use borrow.Author.Tests.{le-leb, lt-ltb, le-ltb, ltb-true, leb-true, leb-false, ne_eqb}
 use Rattle.laws.specs.TestLaws.{both, left, right}
-use Rattle.parts.specs.Figures.{figureOf, isPart, inMask, fitsPart}
+use Rattle.parts.specs.Figures.{figure_of, is_part, in_mask, fits_part}
 use Rattle.parts.specs.declared.figures.Figure.{Figure}
-use Rattle.stages.specs.Address.{nextAddress}
-use Rattle.stages.specs.Bits.{noBits, lowBit, takeBit, bit_of}
-use Rattle.stages.specs.Sound.{soundStage}
-use Rattle.stages.specs.SoundLaws.{shifted-is}
-use Rattle.stages.specs.Wp.{isUp}
+use Rattle.stages.specs.Address.{next_address}
+use Rattle.stages.specs.Bits.{no_bits, low_bit, take_bit, bit_of}
+use Rattle.stages.specs.Sound.{sound_stage}
+use Rattle.stages.specs.SoundLaws.{shifted_is}
+use Rattle.stages.specs.Wp.{is_up}
 use Rattle.stages.specs.declared.bits.Taken.TheVariants.{Part, Whole}
 use Rattle.stages.specs.declared.stage.Line.{Line}
 use Rattle.stages.specs.declared.stage.Line.TheVariants.{Down, Up}
 use Rattle.stages.specs.declared.stage.Stage.TheVariants.{ArrayOut}
-use Rattle.select.specs.Fall.{fall, showArray, lineLevel}
+use Rattle.select.specs.Fall.{fall, show_array, line_level}
 use Rattle.select.specs.Rise.{rise}
 use Rattle.select.specs.declared.notes.Note.TheVariants.{Nothing}
 use Rattle.step.specs.Step.{written}
-use Rattle.report.specs.Record.{codeClocks, mostShown, codeAfter, sampled, risen, shownAfter, noted}
-use Rattle.report.specs.RecordLaws.{counted-exact}
+use Rattle.report.specs.Record.{code_clocks, most_shown, code_after, sampled, risen, shown_after, noted}
+use Rattle.report.specs.RecordLaws.{counted_exact}
 use Rattle.report.specs.declared.record.Record.{Record}
 use Rattle.turns.specs.Bench.{Bench}
 use Rattle.pulses.specs.Pulse.{pulsed}
-use Rattle.pulses.specs.PulseLaws.{openBench, pulse-open, pulsed-suc, pulsed-add}
+use Rattle.pulses.specs.PulseLaws.{open_bench, pulse_open, pulsed_suc, pulsed_add}
 use Rattle.pulses.specs.Sums.{most}
 
 -- ---- the address
 
-pub next-is : (f : Figure) (at : ℕ) → at < f.size → nextAddress f at ≡ (at + 1) % f.size
-unfolding nextAddress
-next-is f at h = go (leb f.size (at + 1)) refl
+pub next_is : (f : Figure) (at : ℕ) → at < f.size → next_address f at ≡ (at + 1) % f.size
+unfolding next_address
+next_is f at h = go (leb f.size (at + 1)) refl
   where
     ends : (size at : ℕ) → at < size → size ≤ at + 1 → at + 1 ≡ size
     ends size at h l = omega arith
@@ -45,8 +45,8 @@ next-is f at h = go (leb f.size (at + 1)) refl
     go true e = sym (ap (λ (k : ℕ). k % f.size) (ends f.size at h (leb-true _ _ e)) ∙ mod_self f.size)
     go false e = sym (mod-eq_of_lt (leb-false f.size (at + 1) e))
 
-step-on : (size at n : ℕ) → ((at + 1) % size + n) % size ≡ (at + suc n) % size
-step-on size at n = mod-add-mod (at + 1) size n ∙ ap (λ (k : ℕ). k % size) (plus at n)
+step_on : (size at n : ℕ) → ((at + 1) % size + n) % size ≡ (at + suc n) % size
+step_on size at n = mod-add-mod (at + 1) size n ∙ ap (λ (k : ℕ). k % size) (plus at n)
   where
     plus : (at n : ℕ) → at + 1 + n ≡ at + suc n
     plus at n = omega arith
@@ -57,44 +57,44 @@ begun : ℕ → ℕ → Bool
 begun zero s = leb 128 s && ltb s 256
 begun (suc k) s = ltb (s * 2 + 1) 256 && (begun k (s * 2 + 0) && begun k (s * 2 + 1))
 
-from-none : begun 7 noBits ≡ true
+from_none : begun 7 no_bits ≡ true
 unfolding begun
-from-none = refl
+from_none = refl
 
-level-sampled : (sample : ℕ) (level : Line) → sampled sample (lineLevel level) ≡ takeBit sample (isUp level)
+level_sampled : (sample : ℕ) (level : Line) → sampled sample (line_level level) ≡ take_bit sample (is_up level)
 unfolding sampled
-level-sampled sample Down = refl
-level-sampled sample Up = refl
+level_sampled sample Down = refl
+level_sampled sample Up = refl
 
 small : (s : ℕ) → s * 2 + 1 < 256 → s < 256
 small s h = omega arith
 
-low_bits : (s : ℕ) (v : Bool) → s * 2 + 1 < 256 → s * 2 + lowBit v < 256
+low_bits : (s : ℕ) (v : Bool) → s * 2 + 1 < 256 → s * 2 + low_bit v < 256
 low_bits s true h = h
 low_bits s false h = omega arith
 
-high_bits : (s : ℕ) (v : Bool) → 128 ≤ s → 256 ≤ s * 2 + lowBit v
+high_bits : (s : ℕ) (v : Bool) → 128 ≤ s → 256 ≤ s * 2 + low_bit v
 high_bits s true h = omega arith
 high_bits s false h = omega arith
 
 module _ (s : ℕ) (v : Bool) where
-  part-taken : s * 2 + 1 < 256 → takeBit s v ≡ Part (s * 2 + lowBit v)
-  unfolding takeBit
-  part-taken h =
-      ap (λ (n : ℕ). cond (ltb n 256) (Part n) (Whole (n % 256))) (shifted-is s v (small s h))
-      ∙ ap (λ (t : Bool). cond t (Part (s * 2 + lowBit v)) (Whole ((s * 2 + lowBit v) % 256))) (lt-ltb (s * 2 + lowBit v) 256 (low_bits s v h))
+  part_taken : s * 2 + 1 < 256 → take_bit s v ≡ Part (s * 2 + low_bit v)
+  unfolding take_bit
+  part_taken h =
+      ap (λ (n : ℕ). cond (ltb n 256) (Part n) (Whole (n % 256))) (shifted_is s v (small s h))
+      ∙ ap (λ (t : Bool). cond t (Part (s * 2 + low_bit v)) (Whole ((s * 2 + low_bit v) % 256))) (lt-ltb (s * 2 + low_bit v) 256 (low_bits s v h))
 
-  whole-taken : 128 ≤ s → s < 256 → takeBit s v ≡ Whole ((s * 2 + lowBit v) % 256)
-  unfolding takeBit
-  whole-taken h l =
-      ap (λ (n : ℕ). cond (ltb n 256) (Part n) (Whole (n % 256))) (shifted-is s v l)
-      ∙ ap (λ (t : Bool). cond t (Part (s * 2 + lowBit v)) (Whole ((s * 2 + lowBit v) % 256))) (le-ltb (s * 2 + lowBit v) 256 (high_bits s v h))
+  whole_taken : 128 ≤ s → s < 256 → take_bit s v ≡ Whole ((s * 2 + low_bit v) % 256)
+  unfolding take_bit
+  whole_taken h l =
+      ap (λ (n : ℕ). cond (ltb n 256) (Part n) (Whole (n % 256))) (shifted_is s v l)
+      ∙ ap (λ (t : Bool). cond t (Part (s * 2 + low_bit v)) (Whole ((s * 2 + low_bit v) % 256))) (le-ltb (s * 2 + low_bit v) 256 (high_bits s v h))
 
 -- ---- the record
 
 -- so many more clocks and bytes of SO, and this sample
-abbrev pub showsOn : Record → ℕ → ℕ → ℕ → Record
-showsOn told clocks sample shown =
+abbrev pub shows_on : Record → ℕ → ℕ → ℕ → Record
+shows_on told clocks sample shown =
     record {
       ignored = told.ignored;
       clocks = told.clocks + clocks;
@@ -104,8 +104,8 @@ showsOn told clocks sample shown =
       stored = told.stored;
     }
 
-shows-shows : (told : Record) (a s b d t e : ℕ) → showsOn (showsOn told a s b) d t e ≡ showsOn told (a + d) t (b + e)
-shows-shows told a s b d t e =
+shows_shows : (told : Record) (a s b d t e : ℕ) → shows_on (shows_on told a s b) d t e ≡ shows_on told (a + d) t (b + e)
+shows_shows told a s b d t e =
     λ i. record {
       ignored = told.ignored;
       clocks = plus told.clocks a d i;
@@ -118,97 +118,97 @@ shows-shows told a s b d t e =
     plus : (x y z : ℕ) → x + y + z ≡ x + (y + z)
     plus x y z = omega arith
 
-module _ (told : Record) (si : Bool) (level : Line) (past : codeClocks ≤ told.clocks) (below : told.clocks < most) where
-  part-rise : told.sample * 2 + 1 < 256 → risen told si (lineLevel level) ≡ showsOn told 1 (told.sample * 2 + lowBit (isUp level)) 0
-  unfolding risen codeAfter
-  part-rise h =
+module _ (told : Record) (si : Bool) (level : Line) (past : code_clocks ≤ told.clocks) (below : told.clocks < most) where
+  part_rise : told.sample * 2 + 1 < 256 → risen told si (line_level level) ≡ shows_on told 1 (told.sample * 2 + low_bit (is_up level)) 0
+  unfolding risen code_after
+  part_rise h =
       rw (
-        level-sampled told.sample level,
-        part-taken told.sample (isUp level) h,
-        le-leb codeClocks told.clocks past,
-        counted-exact told.clocks below,
+        level_sampled told.sample level,
+        part_taken told.sample (is_up level) h,
+        le-leb code_clocks told.clocks past,
+        counted_exact told.clocks below,
         add-zero told.shown,
       )
 
-  whole-rise : 128 ≤ told.sample → told.sample < 256 → told.shown < most → risen told si (lineLevel level) ≡ showsOn told 1 noBits 1
-  unfolding risen codeAfter
-  whole-rise h l room =
+  whole_rise : 128 ≤ told.sample → told.sample < 256 → told.shown < most → risen told si (line_level level) ≡ shows_on told 1 no_bits 1
+  unfolding risen code_after
+  whole_rise h l room =
       rw (
-        level-sampled told.sample level,
-        whole-taken told.sample (isUp level) h l,
-        le-leb codeClocks told.clocks past,
-        counted-exact told.clocks below,
-        counted-exact told.shown room,
+        level_sampled told.sample level,
+        whole_taken told.sample (is_up level) h l,
+        le-leb code_clocks told.clocks past,
+        counted_exact told.clocks below,
+        counted_exact told.shown room,
       )
 
 module _ (os : List ℕ) (told : Record) (level : Line) where
-  part-shown : told.sample * 2 + 1 < 256 → shownAfter os told (lineLevel level) ≡ os
-  unfolding shownAfter
-  part-shown h = rw (level-sampled told.sample level, part-taken told.sample (isUp level) h)
+  part_shown : told.sample * 2 + 1 < 256 → shown_after os told (line_level level) ≡ os
+  unfolding shown_after
+  part_shown h = rw (level_sampled told.sample level, part_taken told.sample (is_up level) h)
 
-  whole-shown : 128 ≤ told.sample → told.sample < 256 → mostShown ≤ told.shown → shownAfter os told (lineLevel level) ≡ os
-  unfolding shownAfter
-  whole-shown h l many =
-      rw (level-sampled told.sample level, whole-taken told.sample (isUp level) h l, le-ltb told.shown mostShown many)
+  whole_shown : 128 ≤ told.sample → told.sample < 256 → most_shown ≤ told.shown → shown_after os told (line_level level) ≡ os
+  unfolding shown_after
+  whole_shown h l many =
+      rw (level_sampled told.sample level, whole_taken told.sample (is_up level) h l, le-ltb told.shown most_shown many)
 
 -- ---- the stage
 
-module _ (part kept : ℕ) (si wp : Line) (latch : Bool) (named : isPart part ≡ true) (masked : inMask part kept ≡ true) (selects : ℕ)
-    (xs os : List ℕ) (fits : fitsPart part (length xs) ≡ true) where
-  abbrev readBench : Line → ℕ → ℕ → Record → Bench
-  readBench level bit at told = openBench part kept si wp latch named masked selects (ArrayOut level bit at) told xs os
+module _ (part kept : ℕ) (si wp : Line) (latch : Bool) (named : is_part part ≡ true) (masked : in_mask part kept ≡ true) (selects : ℕ)
+    (xs os : List ℕ) (fits : fits_part part (length xs) ≡ true) where
+  abbrev read_bench : Line → ℕ → ℕ → Record → Bench
+  read_bench level bit at told = open_bench part kept si wp latch named masked selects (ArrayOut level bit at) told xs os
 
   -- bit 7 of the byte at an address
-  abbrev firstBit : ℕ → Record → Bench
-  firstBit at told = readBench (bit_of (get_or xs at 0) 7) 7 at told
+  abbrev first_bit : ℕ → Record → Bench
+  first_bit at told = read_bench (bit_of (get_or xs at 0) 7) 7 at told
 
-  in_array : (level : Line) (bit at : ℕ) → at < (figureOf part).size → bit < 8 → soundStage (figureOf part) (ArrayOut level bit at) ≡ true
-  unfolding soundStage
-  in_array level bit at h l = both (lt-ltb at (figureOf part).size h) (lt-ltb bit 8 l)
+  in_array : (level : Line) (bit at : ℕ) → at < (figure_of part).size → bit < 8 → sound_stage (figure_of part) (ArrayOut level bit at) ≡ true
+  unfolding sound_stage
+  in_array level bit at h l = both (lt-ltb at (figure_of part).size h) (lt-ltb bit 8 l)
 
   -- a bit with others after it
-  bit-out : (level : Line) (j at : ℕ) (told : Record) → at < (figureOf part).size → j < 7 → told.sample * 2 + 1 < 256
-      → codeClocks ≤ told.clocks → told.clocks < most
-      → pulsed 1 (readBench level (suc j) at told)
-      ≡ readBench (bit_of (get_or xs at 0) j) j at (showsOn told 1 (told.sample * 2 + lowBit (isUp level)) 0)
-  unfolding rise fall showArray written noted
-  bit-out level j at told h l part_of past below =
-      pulse-open part kept si wp latch named masked selects (ArrayOut level (suc j) at) (ArrayOut level (suc j) at)
+  bit_out : (level : Line) (j at : ℕ) (told : Record) → at < (figure_of part).size → j < 7 → told.sample * 2 + 1 < 256
+      → code_clocks ≤ told.clocks → told.clocks < most
+      → pulsed 1 (read_bench level (suc j) at told)
+      ≡ read_bench (bit_of (get_or xs at 0) j) j at (shows_on told 1 (told.sample * 2 + low_bit (is_up level)) 0)
+  unfolding rise fall show_array written noted
+  bit_out level j at told h l part_of past below =
+      pulse_open part kept si wp latch named masked selects (ArrayOut level (suc j) at) (ArrayOut level (suc j) at)
       (ArrayOut (bit_of (get_or xs at 0) j) j at) Nothing told xs os (in_array level (suc j) at h (omega arith)) fits refl
       (rw (ne_eqb (suc j) 0 (λ e. omega arith), less j)) refl refl refl
-      ∙ (λ i. openBench part kept si wp latch named masked selects (ArrayOut (bit_of (get_or xs at 0) j) j at)
-      (part-rise told (isUp si) level past below part_of i) xs (part-shown os told level part_of i))
+      ∙ (λ i. open_bench part kept si wp latch named masked selects (ArrayOut (bit_of (get_or xs at 0) j) j at)
+      (part_rise told (is_up si) level past below part_of i) xs (part_shown os told level part_of i))
     where
       less : (j : ℕ) → suc j - 1 ≡ j
       less j = omega arith
 
   -- the last bit of a byte
-  last_out : (level : Line) (at : ℕ) (told : Record) → at < (figureOf part).size → 128 ≤ told.sample → told.sample < 256
-      → codeClocks ≤ told.clocks → told.clocks < most → mostShown ≤ told.shown → told.shown < most
-      → pulsed 1 (readBench level 0 at told) ≡ firstBit ((at + 1) % (figureOf part).size) (showsOn told 1 noBits 1)
-  unfolding rise fall showArray written noted
+  last_out : (level : Line) (at : ℕ) (told : Record) → at < (figure_of part).size → 128 ≤ told.sample → told.sample < 256
+      → code_clocks ≤ told.clocks → told.clocks < most → most_shown ≤ told.shown → told.shown < most
+      → pulsed 1 (read_bench level 0 at told) ≡ first_bit ((at + 1) % (figure_of part).size) (shows_on told 1 no_bits 1)
+  unfolding rise fall show_array written noted
   last_out level at told h lo hi past below many room =
-      pulse-open part kept si wp latch named masked selects (ArrayOut level 0 at) (ArrayOut level 0 at)
-      (ArrayOut (bit_of (get_or xs (nextAddress (figureOf part) at) 0) 7) 7 (nextAddress (figureOf part) at)) Nothing told xs os
+      pulse_open part kept si wp latch named masked selects (ArrayOut level 0 at) (ArrayOut level 0 at)
+      (ArrayOut (bit_of (get_or xs (next_address (figure_of part) at) 0) 7) 7 (next_address (figure_of part) at)) Nothing told xs os
       (in_array level 0 at h (omega arith)) fits refl refl refl refl refl
-      ∙ (λ i. openBench part kept si wp latch named masked selects
-      (ArrayOut (bit_of (get_or xs (next-is (figureOf part) at h i) 0) 7) 7 (next-is (figureOf part) at h i))
-      (whole-rise told (isUp si) level past below lo hi room i) xs (whole-shown os told level lo hi many i))
+      ∙ (λ i. open_bench part kept si wp latch named masked selects
+      (ArrayOut (bit_of (get_or xs (next_is (figure_of part) at h i) 0) 7) 7 (next_is (figure_of part) at h i))
+      (whole_rise told (is_up si) level past below lo hi room i) xs (whole_shown os told level lo hi many i))
 
   -- the bits that are left of a byte
-  byte-out : (k : ℕ) (level : Line) (at : ℕ) (told : Record) → at < (figureOf part).size → k < 8 → begun k told.sample ≡ true
-      → codeClocks ≤ told.clocks → told.clocks + suc k ≤ most → mostShown ≤ told.shown → told.shown < most
-      → pulsed (suc k) (readBench level k at told) ≡ firstBit ((at + 1) % (figureOf part).size) (showsOn told (suc k) noBits 1)
+  byte_out : (k : ℕ) (level : Line) (at : ℕ) (told : Record) → at < (figure_of part).size → k < 8 → begun k told.sample ≡ true
+      → code_clocks ≤ told.clocks → told.clocks + suc k ≤ most → most_shown ≤ told.shown → told.shown < most
+      → pulsed (suc k) (read_bench level k at told) ≡ first_bit ((at + 1) % (figure_of part).size) (shows_on told (suc k) no_bits 1)
   unfolding begun
-  byte-out zero level at told h l b past below many room =
+  byte_out zero level at told h l b past below many room =
       last_out level at told h (leb-true 128 told.sample (left _ _ b)) (ltb-true told.sample 256 (right (leb 128 told.sample) _ b))
       past (omega arith) many room
-  byte-out (suc k) level at told h l b past below many room =
-      pulsed-suc (suc k) (readBench level (suc k) at told)
-      ∙ ap (pulsed (suc k)) (bit-out level k at told h (omega arith) (ltb-true _ 256 first) past (omega arith))
-      ∙ byte-out k (bit_of (get_or xs at 0) k) at (showsOn told 1 (told.sample * 2 + lowBit (isUp level)) 0) h (omega arith)
-      (either (isUp level)) (omega arith) (omega arith) (omega arith) (omega arith)
-      ∙ ap (firstBit ((at + 1) % (figureOf part).size)) (shows-shows told 1 (told.sample * 2 + lowBit (isUp level)) 0 (suc k) noBits 1 ∙ ap (λ (n : ℕ). showsOn told n noBits 1) (plus_one (suc k)))
+  byte_out (suc k) level at told h l b past below many room =
+      pulsed_suc (suc k) (read_bench level (suc k) at told)
+      ∙ ap (pulsed (suc k)) (bit_out level k at told h (omega arith) (ltb-true _ 256 first) past (omega arith))
+      ∙ byte_out k (bit_of (get_or xs at 0) k) at (shows_on told 1 (told.sample * 2 + low_bit (is_up level)) 0) h (omega arith)
+      (either (is_up level)) (omega arith) (omega arith) (omega arith) (omega arith)
+      ∙ ap (first_bit ((at + 1) % (figure_of part).size)) (shows_shows told 1 (told.sample * 2 + low_bit (is_up level)) 0 (suc k) no_bits 1 ∙ ap (λ (n : ℕ). shows_on told n no_bits 1) (plus_one (suc k)))
     where
       plus_one : (n : ℕ) → 1 + n ≡ suc n
       plus_one n = omega arith
@@ -219,32 +219,32 @@ module _ (part kept : ℕ) (si wp : Line) (latch : Bool) (named : isPart part �
       others : (begun k (told.sample * 2 + 0) && begun k (told.sample * 2 + 1)) ≡ true
       others = right (ltb (told.sample * 2 + 1) 256) _ b
 
-      either : (v : Bool) → begun k (told.sample * 2 + lowBit v) ≡ true
+      either : (v : Bool) → begun k (told.sample * 2 + low_bit v) ≡ true
       either false = left (begun k (told.sample * 2 + 0)) _ others
       either true = right (begun k (told.sample * 2 + 0)) _ others
 
   -- whole bytes, one at least
-  pub bytes-out : (m : ℕ) (level : Line) (at : ℕ) (told : Record) → at < (figureOf part).size → told.sample ≡ noBits
-      → codeClocks ≤ told.clocks → told.clocks + suc m * 8 ≤ most → mostShown ≤ told.shown → told.shown + suc m ≤ most
-      → pulsed (suc m * 8) (readBench level 7 at told)
-      ≡ firstBit ((at + suc m) % (figureOf part).size) (showsOn told (suc m * 8) noBits (suc m))
-  bytes-out zero level at told h none past below many room =
-      byte-out 7 level at told h (omega arith) (ap (begun 7) none ∙ from-none) past (omega arith) many (omega arith)
-  bytes-out (suc m) level at told h none past below many room =
-      ap (λ (n : ℕ). pulsed n (readBench level 7 at told)) (first-eight m)
-      ∙ pulsed-add 8 (suc m * 8) (readBench level 7 at told)
-      ∙ ap (pulsed (suc m * 8)) (byte-out 7 level at told h (omega arith) (ap (begun 7) none ∙ from-none) past (omega arith) many (omega arith))
-      ∙ bytes-out m _ ((at + 1) % (figureOf part).size) (showsOn told 8 noBits 1) (mod-lt (at + 1) (omega arith)) refl (omega arith) (omega arith)
+  pub bytes_out : (m : ℕ) (level : Line) (at : ℕ) (told : Record) → at < (figure_of part).size → told.sample ≡ no_bits
+      → code_clocks ≤ told.clocks → told.clocks + suc m * 8 ≤ most → most_shown ≤ told.shown → told.shown + suc m ≤ most
+      → pulsed (suc m * 8) (read_bench level 7 at told)
+      ≡ first_bit ((at + suc m) % (figure_of part).size) (shows_on told (suc m * 8) no_bits (suc m))
+  bytes_out zero level at told h none past below many room =
+      byte_out 7 level at told h (omega arith) (ap (begun 7) none ∙ from_none) past (omega arith) many (omega arith)
+  bytes_out (suc m) level at told h none past below many room =
+      ap (λ (n : ℕ). pulsed n (read_bench level 7 at told)) (first_eight m)
+      ∙ pulsed_add 8 (suc m * 8) (read_bench level 7 at told)
+      ∙ ap (pulsed (suc m * 8)) (byte_out 7 level at told h (omega arith) (ap (begun 7) none ∙ from_none) past (omega arith) many (omega arith))
+      ∙ bytes_out m _ ((at + 1) % (figure_of part).size) (shows_on told 8 no_bits 1) (mod-lt (at + 1) (omega arith)) refl (omega arith) (omega arith)
       (omega arith) (omega arith)
-      ∙ (λ i. firstBit (step-on (figureOf part).size at (suc m) i) (sums i))
+      ∙ (λ i. first_bit (step_on (figure_of part).size at (suc m) i) (sums i))
     where
-      first-eight : (m : ℕ) → suc (suc m) * 8 ≡ 8 + suc m * 8
-      first-eight m = omega arith
+      first_eight : (m : ℕ) → suc (suc m) * 8 ≡ 8 + suc m * 8
+      first_eight m = omega arith
 
-      sums : showsOn (showsOn told 8 noBits 1) (suc m * 8) noBits (suc m) ≡ showsOn told (suc (suc m) * 8) noBits (suc (suc m))
+      sums : shows_on (shows_on told 8 no_bits 1) (suc m * 8) no_bits (suc m) ≡ shows_on told (suc (suc m) * 8) no_bits (suc (suc m))
       sums =
-          shows-shows told 8 noBits 1 (suc m * 8) noBits (suc m)
-          ∙ (λ i. showsOn told (sym (first-eight m) i) noBits (plus_one (suc m) i))
+          shows_shows told 8 no_bits 1 (suc m * 8) no_bits (suc m)
+          ∙ (λ i. shows_on told (sym (first_eight m) i) no_bits (plus_one (suc m) i))
         where
           plus_one : (n : ℕ) → 1 + n ≡ suc n
           plus_one n = omega arith

@@ -5,13 +5,13 @@ use Rattle.std.proofs.Math.Path.{sym, ap}
 use Rattle.std.proofs.Common.{◌∙◌, mod-eq_of_lt, sub-le, ltb-true}
 use native.Mathlib.Omega.{arith}
 use Rattle.laws.specs.TestLaws.{left}
-use Rattle.parts.specs.Figures.{figureOf}
+use Rattle.parts.specs.Figures.{figure_of}
 use Rattle.parts.specs.FigureLaws.{fair}
-use Rattle.parts.specs.Guards.{firstProtected}
+use Rattle.parts.specs.Guards.{first_protected}
 use Rattle.parts.specs.declared.figures.Figure.{Figure}
-use Rattle.stages.specs.Bits.{noBits}
-use Rattle.stages.specs.Sound.{soundShift, soundWp, soundLast, soundStage}
-use Rattle.stages.specs.Wp.{isUp, cameUp}
+use Rattle.stages.specs.Bits.{no_bits}
+use Rattle.stages.specs.Sound.{sound_shift, sound_wp, sound_last, sound_stage}
+use Rattle.stages.specs.Wp.{is_up, came_up}
 use Rattle.stages.specs.declared.stage.Came.{Came}
 use Rattle.stages.specs.declared.stage.Came.TheVariants.{Bytes}
 use Rattle.stages.specs.declared.stage.Stage.{Stage}
@@ -20,133 +20,133 @@ use Rattle.pins.specs.declared.state.State.{State}
 use Rattle.report.specs.declared.record.Record.{Record}
 use Rattle.turns.specs.declared.stand.Stand.{Stand}
 use Rattle.pulses.specs.Pulse.{pulsed, standing, skipped, Skips}
-use Rattle.pulses.specs.Sums.{most, countsOn, steady, idle, more, stillByte, allowed, storeLimit, fillBytes, stores, least, storedIn, lastIn, lastStored, writeOn, arrayOn}
-use Rattle.pulses.specs.PulseLaws.{pulsed-add}
+use Rattle.pulses.specs.Sums.{most, counts_on, steady, idle, more, still_byte, allowed, store_limit, fill_bytes, stores, least, stored_in, last_in, last_stored, write_on, array_on}
+use Rattle.pulses.specs.PulseLaws.{pulsed_add}
 use Rattle.pulses.specs.IdleLaws.{fits}
-use Rattle.pulses.specs.FillLaws.{stored-in, last_stored, fill-least}
-use Rattle.pulses.specs.WriteLaws.{first-in, bytes-in}
+use Rattle.pulses.specs.FillLaws.{stored_in_lem, last_stored_lem, fill_least}
+use Rattle.pulses.specs.WriteLaws.{first_in, bytes_in}
 use Rattle.pulses.specs.SkipLaws.{counts, named, masked, in_open, stands, stood, long, staged}
 
 -- no address outside the array may be stored to
-limit-fits : (f : Figure) (latch : Bool) (kept : ℕ) (wp : Bool) → allowed f latch kept wp ≤ f.size
-unfolding allowed firstProtected
-limit-fits f false kept wp = zero-le
-limit-fits f true kept wp = go (f.guards_array && not wp)
+limit_fits : (f : Figure) (latch : Bool) (kept : ℕ) (wp : Bool) → allowed f latch kept wp ≤ f.size
+unfolding allowed first_protected
+limit_fits f false kept wp = zero-le
+limit_fits f true kept wp = go (f.guards_array && not wp)
   where
-    go : (v : Bool) → cond v 0 (firstProtected f kept) ≤ f.size
+    go : (v : Bool) → cond v 0 (first_protected f kept) ≤ f.size
     go true = zero-le
     go false = sub-le _ _
 
 -- bytes up to a round of the array are all that change it
-pub round_is : (s : State) (xs : List ℕ) (at n limit byte m : ℕ) (ys : List ℕ) → at < length xs → limit ≡ storeLimit s → byte ≡ stillByte (isUp s.si)
-    → m ≡ least (length xs) n → ys ≡ fillBytes (length xs) limit byte m at xs → ys ≡ arrayOn s xs at n
-unfolding arrayOn
+pub round_is : (s : State) (xs : List ℕ) (at n limit byte m : ℕ) (ys : List ℕ) → at < length xs → limit ≡ store_limit s → byte ≡ still_byte (is_up s.si)
+    → m ≡ least (length xs) n → ys ≡ fill_bytes (length xs) limit byte m at xs → ys ≡ array_on s xs at n
+unfolding array_on
 round_is s xs at n limit byte m ys h bound value count is =
     is
-    ∙ (λ i. fillBytes (length xs) (bound i) (value i) (count i) at xs)
-    ∙ fill-least (length xs) (storeLimit s) (stillByte (isUp s.si)) n at xs h
+    ∙ (λ i. fill_bytes (length xs) (bound i) (value i) (count i) at xs)
+    ∙ fill_least (length xs) (store_limit s) (still_byte (is_up s.si)) n at xs h
 
 module _ (stand : Stand) (xs : List ℕ) (safe : steady stand.chip (length xs) ≡ true) (sees : idle stand.chip ≡ false) where
   -- the address of a WRITE lies in the array
-  pub write-inside : (came : Came) (shift last at : ℕ) → stand.chip.stage ≡ Writing came shift last at → at < length xs
-  unfolding soundStage
-  write-inside came shift last at is =
-      let sure = left _ (soundLast (figureOf stand.chip.part) came last) (staged stand xs safe sees (Writing came shift last at) is) in
-      rw (long stand xs safe sees) (ltb-true at _ (left _ (soundShift shift) (left _ (soundWp (cameUp came) shift) sure)))
+  pub write_inside : (came : Came) (shift last at : ℕ) → stand.chip.stage ≡ Writing came shift last at → at < length xs
+  unfolding sound_stage
+  write_inside came shift last at is =
+      let sure = left _ (sound_last (figure_of stand.chip.part) came last) (staged stand xs safe sees (Writing came shift last at) is) in
+      rw (long stand xs safe sees) (ltb-true at _ (left _ (sound_shift shift) (left _ (sound_wp (came_up came) shift) sure)))
 
   -- what its bytes ask
-  pub write-asks : (n m : ℕ) (came : Came) (shift last at : ℕ) → countsOn stand.told n ≡ true → stand.chip.stage ≡ Writing came shift last at → m ≡ n / 8
-      → (at < length xs) × ((length xs ≤ 0xFFFFFFFF) × ((storeLimit stand.chip ≤ length xs) × ((at + m ≤ most)
+  pub write_asks : (n m : ℕ) (came : Came) (shift last at : ℕ) → counts_on stand.told n ≡ true → stand.chip.stage ≡ Writing came shift last at → m ≡ n / 8
+      → (at < length xs) × ((length xs ≤ 0xFFFFFFFF) × ((store_limit stand.chip ≤ length xs) × ((at + m ≤ most)
       × ((stand.told.clocks + m * 8 ≤ most) × ((stand.told.shown + 0 ≤ most) × (stand.told.stored + m ≤ most))))))
-  write-asks n m came shift last at room is eighth =
+  write_asks n m came shift last at room is eighth =
       let c = counts stand.told n room in
-      let inside = write-inside came shift last at is in
+      let inside = write_inside came shift last at is in
       let short : length xs ≤ 0xFFFFFFFF = rw (long stand xs safe sees) (fair stand.chip.part (named stand xs safe sees)).short in (
         inside,
         (
           short,
           (
-            rw (long stand xs safe sees) (limit-fits (figureOf stand.chip.part) stand.chip.latch stand.chip.kept (isUp stand.chip.wp)),
+            rw (long stand xs safe sees) (limit_fits (figure_of stand.chip.part) stand.chip.latch stand.chip.kept (is_up stand.chip.wp)),
             (omega (arith, inside, short, c.1), (omega (arith, c.1), (omega (arith, c.2), omega (arith, c.3)))),
           ),
         ),
       )
 
   -- whole bytes
-  skip-write : (n m : ℕ) (came : Came) (last at : ℕ) → countsOn stand.told n ≡ true → stand.chip.stage ≡ Writing came noBits last at
-      → 0 < m → m * 8 ≤ n → Skips stand xs n (skipped (writeOn stand (length xs) last at m) (n - m * 8)) (arrayOn stand.chip xs at m)
-  unfolding writeOn arrayOn
-  skip-write n zero came last at room is some fit os = absurd (omega arith)
-  skip-write n (suc k) came last at room is some fit os =
+  skip_write : (n m : ℕ) (came : Came) (last at : ℕ) → counts_on stand.told n ≡ true → stand.chip.stage ≡ Writing came no_bits last at
+      → 0 < m → m * 8 ≤ n → Skips stand xs n (skipped (write_on stand (length xs) last at m) (n - m * 8)) (array_on stand.chip xs at m)
+  unfolding write_on array_on
+  skip_write n zero came last at room is some fit os = absurd (omega arith)
+  skip_write n (suc k) came last at room is some fit os =
       ap (pulsed (n - suc k * 8)) (stands stand xs safe sees after told ys os ∙ sym whole)
-      ∙ sym (pulsed-add (suc k * 8) (n - suc k * 8) (standing stand xs os))
+      ∙ sym (pulsed_add (suc k * 8) (n - suc k * 8) (standing stand xs os))
       ∙ ap (λ (j : ℕ). pulsed j (standing stand xs os)) (total n (suc k * 8) fit)
     where
       total : (n m : ℕ) → m ≤ n → m + (n - m) ≡ n
       total n m h = omega arith
 
       size : ℕ
-      size = (figureOf stand.chip.part).size
+      size = (figure_of stand.chip.part).size
 
       limit : ℕ
-      limit = storeLimit stand.chip
+      limit = store_limit stand.chip
 
       byte : ℕ
-      byte = stillByte (isUp stand.chip.si)
+      byte = still_byte (is_up stand.chip.si)
 
       inside : at < size
-      inside = rw (← long stand xs safe sees) (write-inside came noBits last at is)
+      inside = rw (← long stand xs safe sees) (write_inside came no_bits last at is)
 
       below : limit ≤ size
-      below = limit-fits (figureOf stand.chip.part) stand.chip.latch stand.chip.kept (isUp stand.chip.wp)
+      below = limit_fits (figure_of stand.chip.part) stand.chip.latch stand.chip.kept (is_up stand.chip.wp)
 
       stored : ℕ
-      stored = storedIn (length xs) limit at (suc k)
+      stored = stored_in (length xs) limit at (suc k)
 
       after : Stage
-      after = Writing Bytes noBits (lastStored limit stored ((at + suc k) % length xs) last) ((at + suc k) % length xs)
+      after = Writing Bytes no_bits (last_stored limit stored ((at + suc k) % length xs) last) ((at + suc k) % length xs)
 
       told : Record
       told = more stand.told (suc k * 8) 0 stored
 
       ys : List ℕ
-      ys = fillBytes (length xs) limit byte (suc k) at xs
+      ys = fill_bytes (length xs) limit byte (suc k) at xs
 
       sum : stores size limit (suc k) at ≡ stored
       sum =
-          sym (stored-in size limit (omega (arith, inside)) below (suc k) at)
-          ∙ ap (λ (j : ℕ). storedIn j limit at (suc k)) (sym (long stand xs safe sees))
+          sym (stored_in_lem size limit (omega (arith, inside)) below (suc k) at)
+          ∙ ap (λ (j : ℕ). stored_in j limit at (suc k)) (sym (long stand xs safe sees))
 
-      written : pulsed (suc k * 8) (in_open stand xs safe sees (Writing came noBits last (at % size)) stand.told xs os)
-          ≡ in_open stand xs safe sees (Writing Bytes noBits (lastIn size limit (suc k) at last) ((at + suc k) % size))
-          (more stand.told (suc k * 8) 0 (stores size limit (suc k) at)) (fillBytes size limit byte (suc k) at xs) os
+      written : pulsed (suc k * 8) (in_open stand xs safe sees (Writing came no_bits last (at % size)) stand.told xs os)
+          ≡ in_open stand xs safe sees (Writing Bytes no_bits (last_in size limit (suc k) at last) ((at + suc k) % size))
+          (more stand.told (suc k * 8) 0 (stores size limit (suc k) at)) (fill_bytes size limit byte (suc k) at xs) os
       written =
           let s = stand.chip in
           let c = counts stand.told n room in
           let some : 0 < size = omega (arith, inside) in
-          first-in s.part s.kept s.si s.wp s.latch (named stand xs safe sees) (masked stand xs safe sees) stand.selects os
+          first_in s.part s.kept s.si s.wp s.latch (named stand xs safe sees) (masked stand xs safe sees) stand.selects os
           k came last at stand.told xs (fits s (length xs) safe) some
-          (rw (mod-eq_of_lt inside) (staged stand xs safe sees (Writing came noBits last at) is)) c.0 (omega (arith, c.1)) (omega (arith, c.3))
-          (λ l t zs. λ f w p b r. bytes-in s.part s.kept s.si s.wp s.latch (named stand xs safe sees) (masked stand xs safe sees) stand.selects os
+          (rw (mod-eq_of_lt inside) (staged stand xs safe sees (Writing came no_bits last at) is)) c.0 (omega (arith, c.1)) (omega (arith, c.3))
+          (λ l t zs. λ f w p b r. bytes_in s.part s.kept s.si s.wp s.latch (named stand xs safe sees) (masked stand xs safe sees) stand.selects os
           k l (suc at) t zs f some w p b r)
 
       whole : pulsed (suc k * 8) (standing stand xs os) ≡ in_open stand xs safe sees after told ys os
       whole =
           let size_is = sym (long stand xs safe sees) in
-          ap (pulsed (suc k * 8)) (stood stand xs safe sees (Writing came noBits last at) is os)
-          ∙ ap (λ (j : ℕ). pulsed (suc k * 8) (in_open stand xs safe sees (Writing came noBits last j) stand.told xs os)) (sym (mod-eq_of_lt inside))
+          ap (pulsed (suc k * 8)) (stood stand xs safe sees (Writing came no_bits last at) is os)
+          ∙ ap (λ (j : ℕ). pulsed (suc k * 8) (in_open stand xs safe sees (Writing came no_bits last j) stand.told xs os)) (sym (mod-eq_of_lt inside))
           ∙ written
-          ∙ ap (λ (l : ℕ). in_open stand xs safe sees (Writing Bytes noBits l ((at + suc k) % size))
-          (more stand.told (suc k * 8) 0 (stores size limit (suc k) at)) (fillBytes size limit byte (suc k) at xs) os)
-          (last_stored size limit (omega (arith, inside)) below (suc k) at last)
-          ∙ (λ i. in_open stand xs safe sees (Writing Bytes noBits (lastStored limit (sum i) ((at + suc k) % size_is i) last) ((at + suc k) % size_is i))
-          (more stand.told (suc k * 8) 0 (sum i)) (fillBytes (size_is i) limit byte (suc k) at xs) os)
+          ∙ ap (λ (l : ℕ). in_open stand xs safe sees (Writing Bytes no_bits l ((at + suc k) % size))
+          (more stand.told (suc k * 8) 0 (stores size limit (suc k) at)) (fill_bytes size limit byte (suc k) at xs) os)
+          (last_stored_lem size limit (omega (arith, inside)) below (suc k) at last)
+          ∙ (λ i. in_open stand xs safe sees (Writing Bytes no_bits (last_stored limit (sum i) ((at + suc k) % size_is i) last) ((at + suc k) % size_is i))
+          (more stand.told (suc k * 8) 0 (sum i)) (fill_bytes (size_is i) limit byte (suc k) at xs) os)
 
-  pub write-out : (n m : ℕ) (came : Came) (shift last at : ℕ) (r : Stand) (ys : List ℕ) → countsOn stand.told n ≡ true
-      → stand.chip.stage ≡ Writing came shift last at → shift ≡ noBits → (m ≡ 0 → ⊥) → m ≡ n / 8
-      → r ≡ writeOn stand (length xs) last at m → ys ≡ arrayOn stand.chip xs at m → (n - m * 8 ≤ n) × Skips stand xs n (skipped r (n - m * 8)) ys
-  write-out n m came shift last at r ys room is none some eighth goes stores = (
+  pub write_out : (n m : ℕ) (came : Came) (shift last at : ℕ) (r : Stand) (ys : List ℕ) → counts_on stand.told n ≡ true
+      → stand.chip.stage ≡ Writing came shift last at → shift ≡ no_bits → (m ≡ 0 → ⊥) → m ≡ n / 8
+      → r ≡ write_on stand (length xs) last at m → ys ≡ array_on stand.chip xs at m → (n - m * 8 ≤ n) × Skips stand xs n (skipped r (n - m * 8)) ys
+  write_out n m came shift last at r ys room is none some eighth goes stores = (
     omega arith,
     λ os. (λ i. pulsed (n - m * 8) (standing (goes i) (stores i) os))
-        ∙ skip-write n m came last at room (is ∙ ap (λ (b : ℕ). Writing came b last at) none) (omega arith) (omega arith) os,
+        ∙ skip_write n m came last at room (is ∙ ap (λ (b : ℕ). Writing came b last at) none) (omega arith) (omega arith) os,
   )

@@ -2,7 +2,7 @@
 ghost use Rattle.std.specs.Prelude.{◌≡◌, true, false, ◌+◌, ◌*◌, ◌<◌, ◌≤◌, length};
 ghost use Rattle.stages.specs.declared.stage.Stage.TheVariants.{ArrayOut};
 ghost use Rattle.pulses.specs.Pulse.{Skips};
-ghost use Rattle.pulses.specs.Sums.{most, countsOn, steady, idle, read_on};
+ghost use Rattle.pulses.specs.Sums.{most, counts_on, steady, idle, read_on};
 
 use crate::sums::{Skipped, count_more, nothing};
 use parts::figures::figure_of;
@@ -51,7 +51,7 @@ pub(crate) fn skip_read(
 ) -> Skipped
     requires array_value { steady stand.chip (length array.now) ≡ true }
     requires chip_value { idle stand.chip ≡ false }
-    requires pulses_value { countsOn stand.told pulses ≡ true }
+    requires pulses_value { counts_on stand.told pulses ≡ true }
     requires stage_value { stand.chip.stage ≡ ArrayOut level bit at }
     ensures left_le_pulses { result.left ≤ pulses }
     ensures skips { Skips stand array.now pulses result array.now }

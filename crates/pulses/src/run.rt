@@ -1,6 +1,6 @@
 // The pulses of an item: SCK up then down, as often as it says.
 ghost use Rattle.std.specs.Prelude.{◌≡◌};
-ghost use Rattle.turns.specs.Bench.{benchOf, deskOf, onPage};
+ghost use Rattle.turns.specs.Bench.{bench_of, desk_of, on_page};
 ghost use Rattle.turns.specs.Page.{page_of};
 ghost use Rattle.pulses.specs.Pulse.{pulsed};
 
@@ -10,8 +10,8 @@ use turns::turn::{Turn, take_event};
 
 // One pulse, event by event, where none before it was refused.
 fn take_pulse(turn: Turn, array: &mut [u8], shown: &mut [u8; SHOWN], out: &mut [u8]) -> Turn
-    ensures { deskOf result array.new shown.new out.new
-        ≡ onPage (page_of out.old turn.at) (pulsed 1 (benchOf turn array.old shown.old)) }
+    ensures { desk_of result array.new shown.new out.new
+        ≡ on_page (page_of out.old turn.at) (pulsed 1 (bench_of turn array.old shown.old)) }
 {
     if turn.refusal != 0 {
         return turn;
@@ -31,8 +31,8 @@ pub fn take_pulses(
     out: &mut [u8],
     pulses: u64,
 ) -> Turn
-    ensures { deskOf result array.new shown.new out.new
-        ≡ onPage (page_of out.old turn.at) (pulsed pulses (benchOf turn array.old shown.old)) }
+    ensures { desk_of result array.new shown.new out.new
+        ≡ on_page (page_of out.old turn.at) (pulsed pulses (bench_of turn array.old shown.old)) }
 {
     let mut turn = turn;
     let mut left = pulses;

@@ -1,7 +1,7 @@
 // Pulses that one sum answers.
 ghost use Rattle.std.specs.Prelude.{◌≡◌, true, false, ◌≤◌, length};
 ghost use Rattle.pulses.specs.Pulse.{Skips};
-ghost use Rattle.pulses.specs.Sums.{countsOn, steady, idle};
+ghost use Rattle.pulses.specs.Sums.{counts_on, steady, idle};
 
 use crate::read::skip_read;
 use crate::sums::{Skipped, count_more, counts_on, is_idle, is_steady, nothing};
@@ -13,7 +13,7 @@ use turns::stand::Stand;
 fn skip_open(stand: Stand, array: &mut [u8], pulses: u64) -> Skipped
     requires array_value { steady stand.chip (length array.old) ≡ true }
     requires chip_value { idle stand.chip ≡ false }
-    requires pulses_value { countsOn stand.told pulses ≡ true }
+    requires pulses_value { counts_on stand.told pulses ≡ true }
     ensures left_le_pulses { result.left ≤ pulses }
     ensures skips { Skips stand array.old pulses result array.new }
 {

@@ -1,7 +1,7 @@
 // Whether pulses can be answered by a sum, and the counts that they come to.
 ghost use Rattle.std.specs.Prelude.{◌≡◌, ◌+◌, ◌≤◌};
 ghost use Rattle.pulses.specs.Pulse.{skipped};
-ghost use Rattle.pulses.specs.Sums.{most, room, countsOn, steady, idle, more};
+ghost use Rattle.pulses.specs.Sums.{most, room, counts_on, steady, idle, more};
 
 use parts::figures::figure_of;
 use pins::hold::hold_high;
@@ -40,7 +40,7 @@ fn has_room(count: u64, more: u64) -> bool
 
 // Whether the op-code is whole and no count stops within so many pulses.
 pub(crate) fn counts_on(told: Record, pulses: u64) -> bool
-    ensures { result ≡ countsOn told pulses }
+    ensures { result ≡ counts_on told pulses }
 {
     (CODE_CLOCKS <= told.clocks)
         & has_room(told.clocks, pulses)

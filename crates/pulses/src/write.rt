@@ -1,9 +1,9 @@
 // Whole bytes of a WRITE. SI stands, so that each of them is 00 or FF, and once the array is gone round no more of them changes it.
 ghost use Rattle.std.specs.Prelude.{◌≡◌, true, false, ◌+◌, ◌*◌, ◌%◌, ◌<◌, ◌≤◌, length};
-ghost use Rattle.stages.specs.Wp.{isUp};
+ghost use Rattle.stages.specs.Wp.{is_up};
 ghost use Rattle.stages.specs.declared.stage.Stage.TheVariants.{Writing};
 ghost use Rattle.pulses.specs.Pulse.{Skips};
-ghost use Rattle.pulses.specs.Sums.{most, countsOn, steady, idle, stillByte, storeLimit, put, fillBytes, least, before, storedIn, lastStored, writeOn, arrayOn};
+ghost use Rattle.pulses.specs.Sums.{most, counts_on, steady, idle, still_byte, store_limit, put, fill_bytes, least, before, stored_in, last_stored, write_on, array_on};
 
 use crate::sums::{Skipped, count_more, nothing};
 use parts::figures::figure_of;
@@ -16,7 +16,7 @@ use turns::stand::Stand;
 
 // The byte that eight clocks with SI at one level give.
 fn still_byte(si: Line) -> u8
-    ensures { result ≡ stillByte (isUp si) }
+    ensures { result ≡ still_byte (is_up si) }
 {
     match si {
         Line::Down => 0,
@@ -26,7 +26,7 @@ fn still_byte(si: Line) -> u8
 
 // "Who may write": the addresses below this may be stored to.
 fn store_limit(chip: State) -> usize
-    ensures { result ≡ storeLimit chip }
+    ensures { result ≡ store_limit chip }
 {
     let f = figure_of(chip.part as u64);
     let wp = chip.wp;
@@ -59,7 +59,7 @@ fn stored_in(size: u64, limit: u64, at: u64, bytes: u64) -> u64
     requires size_nonzero { 0 < size }
     requires limit_le_size { limit ≤ size }
     requires bytes_bound { at + bytes ≤ most }
-    ensures value { result ≡ storedIn size limit at bytes }
+    ensures value { result ≡ stored_in size limit at bytes }
     ensures upper_bound { result ≤ bytes }
 {
     stored_before(size, limit, at + bytes) - stored_before(size, limit, at)
@@ -68,7 +68,7 @@ fn stored_in(size: u64, limit: u64, at: u64, bytes: u64) -> u64
 // The byte stored last, its address and one: `end` is the address after all the bytes.
 fn last_stored(limit: usize, stored: u64, end: usize, last: u32) -> u32
     requires { limit ≤ 0xFFFFFFFF }
-    ensures { result ≡ lastStored limit stored end last }
+    ensures { result ≡ last_stored limit stored end last }
 {
     if stored == 0 {
         return last;
@@ -101,7 +101,7 @@ fn next(at: usize, size: usize) -> usize
 // Bytes of one value from an address on, round the array.
 fn fill(array: &mut [u8], limit: usize, byte: u8, start: usize, bytes: u64)
     requires { start < length array.old }
-    ensures { array.new ≡ fillBytes (length array.old) limit byte bytes start array.old }
+    ensures { array.new ≡ fill_bytes (length array.old) limit byte bytes start array.old }
 {
     let mut at = start;
     let mut left = bytes;
@@ -115,7 +115,7 @@ fn fill(array: &mut [u8], limit: usize, byte: u8, start: usize, bytes: u64)
 // The array after so many bytes from an address on.
 fn write_bytes(chip: State, array: &mut [u8], at: usize, bytes: u64)
     requires { at < length array.old }
-    ensures { array.new ≡ arrayOn chip array.old at bytes }
+    ensures { array.new ≡ array_on chip array.old at bytes }
 {
     let size = array.len() as u64;
     let si = chip.si;
@@ -132,12 +132,12 @@ fn write_bytes(chip: State, array: &mut [u8], at: usize, bytes: u64)
 fn write_on(stand: Stand, size: usize, last: u32, at: usize, bytes: u64) -> Stand
     requires at_lt_size { at < size }
     requires size_bound { size ≤ 0xFFFFFFFF }
-    requires chip_bound { storeLimit stand.chip ≤ size }
+    requires chip_bound { store_limit stand.chip ≤ size }
     requires bytes_bound { at + bytes ≤ most }
     requires bytes_bound_2 { stand.told.clocks + bytes * 8 ≤ most }
     requires shown_bound { stand.told.shown + 0 ≤ most }
     requires bytes_bound_3 { stand.told.stored + bytes ≤ most }
-    ensures { result ≡ writeOn stand size last at bytes }
+    ensures { result ≡ write_on stand size last at bytes }
 {
     let chip = stand.chip;
     let told = stand.told;
@@ -171,7 +171,7 @@ pub(crate) fn skip_write(
 ) -> Skipped
     requires array_value { steady stand.chip (length array.old) ≡ true }
     requires chip_value { idle stand.chip ≡ false }
-    requires pulses_value { countsOn stand.told pulses ≡ true }
+    requires pulses_value { counts_on stand.told pulses ≡ true }
     requires stage_value { stand.chip.stage ≡ Writing came shift last at }
     ensures left_le_pulses { result.left ≤ pulses }
     ensures skips { Skips stand array.old pulses result array.new }

@@ -10,7 +10,7 @@ use native.Mathlib.Omega.{arith}
 use borrow.Author.Tests.{lt-ltb, le-ltb, leb-true, leb-false}
 use lib.Dec.{leb}
 use Rattle.io.specs.Digits.{last_digits, IsDigitCount, hex_digit_ascii}
-use Rattle.report.specs.Text.{decimalIn, mostDigits}
+use Rattle.report.specs.Text.{decimal_in, most_digits}
 
 last : (n : ℕ) → hex_digit_ascii (n % 10) ≡ 48 + n % 10
 last n = rw (lt-ltb (n % 10) 10 (mod-lt n (omega arith)))
@@ -29,25 +29,25 @@ tenth j n h = (
 ten : (j : ℕ) → 10 ≤ 10 ^ (suc (suc j) - 1)
 ten j = simp unary_clauses (mul-le-mul_right 10 (pow-le-pow_right {n = 10} (omega arith) {i = 0} {j = j} (omega arith)))
 
-pub decimal-is : (k most n : ℕ) → IsDigitCount 10 1 n k → k ≤ most → last_digits 10 k n ≡ decimalIn most n
-decimal-is zero most n h le = absurd (omega arith)
-decimal-is (suc k) zero n h le = absurd (omega arith)
-decimal-is (suc zero) (suc most) n h le =
+pub decimal_is : (k most n : ℕ) → IsDigitCount 10 1 n k → k ≤ most → last_digits 10 k n ≡ decimal_in most n
+decimal_is zero most n h le = absurd (omega arith)
+decimal_is (suc k) zero n h le = absurd (omega arith)
+decimal_is (suc zero) (suc most) n h le =
     let small : n < 10 = h.1 in
     ap (λ (d : ℕ). d ∷ []) (last n ∙ ap (λ (m : ℕ). 48 + m) (mod-eq_of_lt small)) ∙ rw (lt-ltb n 10 small)
-decimal-is (suc (suc j)) (suc most) n h le =
+decimal_is (suc (suc j)) (suc most) n h le =
     let large : 10 ≤ n = le_trans (ten j) (h.2 (omega arith)) in
-    rw (le-ltb n 10 large, last n, decimal-is (suc j) most (n / 10) (tenth j n h) (omega arith))
+    rw (le-ltb n 10 large, last n, decimal_is (suc j) most (n / 10) (tenth j n h) (omega arith))
 
 -- a machine number has no more digits
-pub short : (k n : ℕ) → n < 2 ^ 64 → IsDigitCount 10 1 n k → k ≤ mostDigits
-short k n small h = go (leb k mostDigits) refl
+pub short : (k n : ℕ) → n < 2 ^ 64 → IsDigitCount 10 1 n k → k ≤ most_digits
+short k n small h = go (leb k most_digits) refl
   where
-    far : mostDigits < k → ⊥
+    far : most_digits < k → ⊥
     far long =
-        let least : 10 ^ mostDigits ≤ n = le_trans (pow-le-pow_right {n = 10} (omega arith) {i = mostDigits} {j = k - 1} (omega arith)) (h.2 (omega arith)) in
+        let least : 10 ^ most_digits ≤ n = le_trans (pow-le-pow_right {n = 10} (omega arith) {i = most_digits} {j = k - 1} (omega arith)) (h.2 (omega arith)) in
         omega arith
 
-    go : (t : Bool) → leb k mostDigits ≡ t → k ≤ mostDigits
-    go true e = leb-true k mostDigits e
-    go false e = absurd (far (leb-false k mostDigits e))
+    go : (t : Bool) → leb k most_digits ≡ t → k ≤ most_digits
+    go true e = leb-true k most_digits e
+    go false e = absurd (far (leb-false k most_digits e))

@@ -11,11 +11,11 @@ use Rattle.io.specs.Counts.{IsPrefixLen}
 use Rattle.report.specs.Text.{Puts, hex, hexes}
 
 -- the stores of two texts, one behind the other, are those of the whole
-sets-append : (l : List ℕ) (at : ℕ) (p q : List ℕ) → sets l at (p ++ q) ≡ sets (sets l at p) (at + length p) q
-sets-append l at [] q = ap (λ (n : ℕ). sets l n q) (sym (add-zero at))
-sets-append l at (x ∷ p) q =
+sets_append : (l : List ℕ) (at : ℕ) (p q : List ℕ) → sets l at (p ++ q) ≡ sets (sets l at p) (at + length p) q
+sets_append l at [] q = ap (λ (n : ℕ). sets l n q) (sym (add-zero at))
+sets_append l at (x ∷ p) q =
     let place : suc at + length p ≡ at + suc (length p) = omega arith in
-    sets-append (set l at x) (suc at) p q ∙ ap (λ (n : ℕ). sets (sets (set l at x) (suc at) p) n q) place
+    sets_append (set l at x) (suc at) p q ∙ ap (λ (n : ℕ). sets (sets (set l at x) (suc at) p) n q) place
 
 -- no text changes nothing
 pub none : (a : List ℕ) (at : ℕ) → Puts a at [] a at
@@ -24,7 +24,7 @@ none a at = record { bytes = refl; ends = sym (add-zero at) }
 -- two texts, one behind the other
 infixl 60 ◌then◌
 pub ◌then◌ : {a b c p q : List ℕ} {i j k : ℕ} → Puts a i p b j → Puts b j q c k → Puts a i (p ++ q) c k
-◌then◌ {a} {p = p} {q} {i} x y = record { bytes = cc (sets-append a i p q); ends = omega (arith, length-append p q) }
+◌then◌ {a} {p = p} {q} {i} x y = record { bytes = cc (sets_append a i p q); ends = omega (arith, length-append p q) }
 
 -- a text by another name
 pub same : {a b p q : List ℕ} {i j : ℕ} → p ≡ q → Puts a i p b j → Puts a i q b j
@@ -46,13 +46,13 @@ line {a} {b} {text} {n} h x =
     let size : n ≡ length text = omega arith in
     ((h, sym (length-take-le n b h)), (size, x.bytes ∙ sets-eq text a 0 (omega (arith, kept x)) ∙ rw (← x.ends)))
 
-hexes-append : (xs ys : List ℕ) → hexes (xs ++ ys) ≡ hexes xs ++ hexes ys
-hexes-append [] ys = refl
-hexes-append (x ∷ xs) ys = ap (λ (l : List ℕ). hex x ++ l) (hexes-append xs ys) ∙ sym (append_assoc (hex x) (hexes xs) (hexes ys))
+hexes_append : (xs ys : List ℕ) → hexes (xs ++ ys) ≡ hexes xs ++ hexes ys
+hexes_append [] ys = refl
+hexes_append (x ∷ xs) ys = ap (λ (l : List ℕ). hex x ++ l) (hexes_append xs ys) ∙ sym (append_assoc (hex x) (hexes xs) (hexes ys))
 
 -- one byte more, of two digits
-pub hexes-more : (bytes : List ℕ) (i : ℕ) → i < length bytes → hexes (take (i + 1) bytes) ≡ hexes (take i bytes) ++ hex (get_or bytes i 0)
-hexes-more bytes i h =
+pub hexes_more : (bytes : List ℕ) (i : ℕ) → i < length bytes → hexes (take (i + 1) bytes) ≡ hexes (take i bytes) ++ hex (get_or bytes i 0)
+hexes_more bytes i h =
     ap hexes (ap (λ (n : ℕ). take n bytes) (add-one i) ∙ take-suc bytes i 0 h)
-    ∙ hexes-append (take i bytes) (get_or bytes i 0 ∷ [])
+    ∙ hexes_append (take i bytes) (get_or bytes i 0 ∷ [])
     ∙ ap (λ (l : List ℕ). hexes (take i bytes) ++ l) (append-nil (hex (get_or bytes i 0)))

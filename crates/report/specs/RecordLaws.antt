@@ -4,6 +4,6 @@ use Rattle.std.specs.Prelude.{◌≡◌, ℕ, ◌+◌, ◌<◌}
 use Rattle.std.proofs.Common.{lt-ltb}
 use Rattle.report.specs.Record.{counted}
 
-pub counted-exact : (n : ℕ) → n < 0xFFFFFFFFFFFFFFFF → counted n ≡ n + 1
+pub counted_exact : (n : ℕ) → n < 0xFFFFFFFFFFFFFFFF → counted n ≡ n + 1
 unfolding counted
-counted-exact n h = rw (lt-ltb n 0xFFFFFFFFFFFFFFFF h)
+counted_exact n h = rw (lt-ltb n 0xFFFFFFFFFFFFFFFF h)

@@ -10,8 +10,8 @@ pub record Puts (before : List ℕ) (at : ℕ) (text after : List ℕ) (next : �
   pub ends : next ≡ at + length text
 
 -- the bytes that a line's buffer has; every line fits
-abbrev pub lineRoom : ℕ
-lineRoom = 256
+abbrev pub line_room : ℕ
+line_room = 256
 
 -- the bytes of a text
 abbrev pub ascii : String → List ℕ
@@ -32,15 +32,15 @@ hexes [] = []
 hexes (b ∷ bs) = hex b ++ hexes bs
 
 -- the digits of n, of `most` at most, with no 0 in front
-abbrev pub decimalIn : ℕ → ℕ → List ℕ
-decimalIn zero n = []
-decimalIn (suc most) n =
-    cond (ltb n 10) ((48 + n) ∷ []) (decimalIn most (n / 10) ++ ((48 + n % 10) ∷ []))
+abbrev pub decimal_in : ℕ → ℕ → List ℕ
+decimal_in zero n = []
+decimal_in (suc most) n =
+    cond (ltb n 10) ((48 + n) ∷ []) (decimal_in most (n / 10) ++ ((48 + n % 10) ∷ []))
 
 -- no number here has more digits
-abbrev pub mostDigits : ℕ
-mostDigits = 20
+abbrev pub most_digits : ℕ
+most_digits = 20
 
 -- "other numbers are decimal"
 unfoldable pub decimal : ℕ → List ℕ
-decimal n = decimalIn mostDigits n
+decimal n = decimal_in most_digits n

@@ -2,9 +2,9 @@
 // answer is its length.
 ghost use Rattle.std.specs.Prelude.{◌≡◌, ◌++◌, ◌+◌, ◌*◌, ◌≤◌, length, drop};
 ghost use Rattle.io.specs.Counts.{IsPrefixLen};
-ghost use Rattle.report.specs.Record.{mostShown};
-ghost use Rattle.report.specs.Text.{Puts, lineRoom, mostDigits};
-ghost use Rattle.report.specs.Lines.{codeText, shownText, numbered, partLine, countsText, selectLine, endLine};
+ghost use Rattle.report.specs.Record.{most_shown};
+ghost use Rattle.report.specs.Text.{Puts, line_room, most_digits};
+ghost use Rattle.report.specs.Lines.{code_text, shown_text, numbered, part_line, counts_text, select_line, end_line};
 
 use crate::record::{CODE_CLOCKS, Record, SHOWN};
 use crate::text::{put, put_decimal, put_hex, put_hexes};
@@ -14,9 +14,9 @@ pub const LINE: usize = 256;
 
 // "op-code in hex, or "--" under eight clocks", and in a select that is ignored.
 fn put_code(out: &mut [u8; LINE], at: usize, ignored: bool, clocks: u64, code: u8) -> usize
-    requires { at + 2 ≤ lineRoom }
+    requires { at + 2 ≤ line_room }
     ensures value { result ≡ at + 2 }
-    ensures puts { Puts out.old at (codeText ignored clocks code) out.new result }
+    ensures puts { Puts out.old at (code_text ignored clocks code) out.new result }
 {
     if ignored | (clocks < CODE_CLOCKS) {
         return put(out, at, b"--");
@@ -26,10 +26,10 @@ fn put_code(out: &mut [u8; LINE], at: usize, ignored: bool, clocks: u64, code: u
 
 // The whole bytes of SO, the first of which the buffer has.
 fn put_shown(out: &mut [u8; LINE], at: usize, shown: &[u8], whole: u64) -> usize
-    requires most_shown_bound { at + (2 * mostShown + 1) ≤ lineRoom }
-    requires shown_len { length shown.now ≡ mostShown }
-    ensures upper_bound { result ≤ at + (2 * mostShown + 1) }
-    ensures puts { Puts out.old at (shownText shown.now whole) out.new result }
+    requires most_shown_bound { at + (2 * most_shown + 1) ≤ line_room }
+    requires shown_len { length shown.now ≡ most_shown }
+    ensures upper_bound { result ≤ at + (2 * most_shown + 1) }
+    ensures puts { Puts out.old at (shown_text shown.now whole) out.new result }
 {
     if whole == 0 {
         return put(out, at, b"-");
@@ -44,8 +44,8 @@ fn put_shown(out: &mut [u8; LINE], at: usize, shown: &[u8], whole: u64) -> usize
 
 // A word and its number.
 fn put_numbered(out: &mut [u8; LINE], at: usize, word: &[u8], n: u64) -> usize
-    requires { at + length word.now + mostDigits ≤ lineRoom }
-    ensures upper_bound { result ≤ at + length word.now + mostDigits }
+    requires { at + length word.now + most_digits ≤ line_room }
+    ensures upper_bound { result ≤ at + length word.now + most_digits }
     ensures puts { Puts out.old at (numbered word.now n) out.new result }
 {
     let next = put(out, at, word);
@@ -55,8 +55,8 @@ fn put_numbered(out: &mut [u8; LINE], at: usize, word: &[u8], n: u64) -> usize
 // "Line 1: part, size, kept bits in hex".
 pub fn part_line(out: &mut [u8; LINE], part: u64, size: u64, kept: u8) -> usize
     ensures prefix_len { IsPrefixLen result out.new }
-    ensures value { result ≡ length (partLine part size kept) }
-    ensures out_after { out.new ≡ partLine part size kept ++ drop result out.old }
+    ensures value { result ≡ length (part_line part size kept) }
+    ensures out_after { out.new ≡ part_line part size kept ++ drop result out.old }
 {
     let at = put_numbered(out, 0, b"part ", part);
     let at = put_numbered(out, at, b" bytes ", size);
@@ -67,9 +67,9 @@ pub fn part_line(out: &mut [u8; LINE], part: u64, size: u64, kept: u8) -> usize
 
 // The op-code, seen rises and stored notes of a select.
 fn put_counts(out: &mut [u8; LINE], at: usize, told: Record) -> usize
-    requires { at + 62 ≤ lineRoom }
+    requires { at + 62 ≤ line_room }
     ensures upper_bound { result ≤ at + 62 }
-    ensures puts { Puts out.old at (countsText told) out.new result }
+    ensures puts { Puts out.old at (counts_text told) out.new result }
 {
     let at = put(out, at, b" op ");
     let at = put_code(out, at, told.ignored, told.clocks, told.code);
@@ -80,8 +80,8 @@ fn put_counts(out: &mut [u8; LINE], at: usize, told: Record) -> usize
 // A select's line, by its number, its record and the first bytes of SO.
 pub fn select_line(out: &mut [u8; LINE], number: u64, told: Record, shown: &[u8; SHOWN]) -> usize
     ensures prefix_len { IsPrefixLen result out.new }
-    ensures value { result ≡ length (selectLine number told shown.now) }
-    ensures out_after { out.new ≡ selectLine number told shown.now ++ drop result out.old }
+    ensures value { result ≡ length (select_line number told shown.now) }
+    ensures out_after { out.new ≡ select_line number told shown.now ++ drop result out.old }
 {
     let at = put_numbered(out, 0, b"sel ", number);
     let at = put(out, at, b" so ");
@@ -93,8 +93,8 @@ pub fn select_line(out: &mut [u8; LINE], number: u64, told: Record, shown: &[u8;
 // "Last line: kept bits in hex (00 before power-up), latch (0 before power-up), refusal."
 pub fn end_line(out: &mut [u8; LINE], kept: u8, latch: bool, refusal: u8) -> usize
     ensures prefix_len { IsPrefixLen result out.new }
-    ensures value { result ≡ length (endLine kept latch refusal) }
-    ensures out_after { out.new ≡ endLine kept latch refusal ++ drop result out.old }
+    ensures value { result ≡ length (end_line kept latch refusal) }
+    ensures out_after { out.new ≡ end_line kept latch refusal ++ drop result out.old }
 {
     let at = put(out, 0, b"end kept ");
     let at = put_hex(out, at, kept);

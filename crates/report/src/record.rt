@@ -1,6 +1,6 @@
 // A select's record: what its line tells, by value; beside it, in a lent buffer, the first bytes of SO.
 ghost use Rattle.std.specs.Prelude.{◌≡◌};
-ghost use Rattle.report.specs.Record.{counted, sampled, codeAfter, kept_at, noRise, risen, shownAfter, noted};
+ghost use Rattle.report.specs.Record.{counted, sampled, code_after, kept_at, no_rise, risen, shown_after, noted};
 
 use select::notes::{Level, Note};
 use stages::bits::{NO_BITS, Taken, take_bit};
@@ -45,7 +45,7 @@ fn sample(bits: u16, so: Level) -> Taken
 
 // The op-code's bits with one more; the first eight rises have them.
 fn code_after(clocks: u64, code: u8, si: bool) -> u8
-    ensures { result ≡ codeAfter clocks code si }
+    ensures { result ≡ code_after clocks code si }
 {
     if CODE_CLOCKS <= clocks {
         return code;
@@ -65,7 +65,7 @@ fn keep(shown: &mut [u8; SHOWN], at: u64, byte: u8)
 impl Record {
     // A select that no rise was seen in.
     pub fn new(ignored: bool) -> Record
-        ensures { result ≡ noRise ignored }
+        ensures { result ≡ no_rise ignored }
     {
         Record {
             ignored,
@@ -80,7 +80,7 @@ impl Record {
     // After a seen rise, with SI and SO as they stood before it.
     pub fn rise(self, si: bool, so: Level, shown: &mut [u8; SHOWN]) -> Record
         ensures value { result ≡ risen self si so }
-        ensures shown_after { shown.new ≡ shownAfter shown.old self so }
+        ensures shown_after { shown.new ≡ shown_after shown.old self so }
     {
         let clocks = count(self.clocks);
         let code = code_after(self.clocks, self.code, si);

@@ -1,7 +1,7 @@
 // Pieces of a line, put one after the other into a lent buffer: each call puts its text at a place,
 // leaves the rest of the buffer alone and answers the place after the text.
 ghost use Rattle.std.specs.Prelude.{◌≡◌, ◌+◌, ◌*◌, ◌≤◌, ◌<◌, get_or, length};
-ghost use Rattle.report.specs.Text.{Puts, lineRoom, capitals, hex, hexes, mostDigits, decimal};
+ghost use Rattle.report.specs.Text.{Puts, line_room, capitals, hex, hexes, most_digits, decimal};
 
 use crate::lines::LINE;
 
@@ -34,7 +34,7 @@ pub(crate) fn put(out: &mut [u8], at: usize, text: &[u8]) -> usize
 
 // The two digits of a byte.
 pub(crate) fn put_hex(out: &mut [u8; LINE], at: usize, byte: u8) -> usize
-    requires { at + 2 ≤ lineRoom }
+    requires { at + 2 ≤ line_room }
     ensures value { result ≡ at + 2 }
     ensures puts { Puts out.old at (hex byte) out.new result }
 {
@@ -45,7 +45,7 @@ pub(crate) fn put_hex(out: &mut [u8; LINE], at: usize, byte: u8) -> usize
 
 // The digits of bytes, "with no spaces between bytes".
 pub(crate) fn put_hexes(out: &mut [u8; LINE], at: usize, bytes: &[u8]) -> usize
-    requires { at + 2 * length bytes.now ≤ lineRoom }
+    requires { at + 2 * length bytes.now ≤ line_room }
     ensures value { result ≡ at + 2 * length bytes.now }
     ensures puts { Puts out.old at (hexes bytes.now) out.new result }
 {
@@ -60,8 +60,8 @@ pub(crate) fn put_hexes(out: &mut [u8; LINE], at: usize, bytes: &[u8]) -> usize
 
 // "other numbers are decimal".
 pub(crate) fn put_decimal(out: &mut [u8; LINE], at: usize, n: u64) -> usize
-    requires { at + mostDigits ≤ lineRoom }
-    ensures upper_bound { result ≤ at + mostDigits }
+    requires { at + most_digits ≤ line_room }
+    ensures upper_bound { result ≤ at + most_digits }
     ensures puts { Puts out.old at (decimal n) out.new result }
 {
     let mut digits = [0u8; DIGITS];

@@ -5,7 +5,7 @@ use mathlib.Core.Bool.{Bool, true, false}
 use mathlib.Core.List.{List}
 use Prim.Native.Nat.{ℕ}
 use Rattle.sayings.specs.Characters.{ascii}
-use Rattle.sayings.specs.Says.{pins, pinOf, itself, saidVerb}
+use Rattle.sayings.specs.Says.{pins, pin_of, itself, said_verb}
 use Rattle.sayings.specs.Words.{named}
 use Rattle.sayings.specs.declared.says.Next.TheVariants as next
 use Rattle.sayings.specs.declared.says.Said.{Said}
@@ -21,71 +21,71 @@ yes e t = sym e ∙ t
 -- ---- the pins
 
 module _ (w : List ℕ) {a : Bool} (p₁ : a ≡ named w (ascii "cs")) where
-  pub pin-cs : a ≡ true → 0 ≡ pinOf w
-  unfolding pinOf
-  pin-cs t = sym (rw (yes p₁ t))
+  pub pin_cs : a ≡ true → 0 ≡ pin_of w
+  unfolding pin_of
+  pin_cs t = sym (rw (yes p₁ t))
 
   module _ (q₁ : a ≡ false) {b : Bool} (p₂ : b ≡ named w (ascii "sck")) where
-    pub pin-sck : b ≡ true → 1 ≡ pinOf w
-    unfolding pinOf
-    pin-sck t = sym (rw (no p₁ q₁, yes p₂ t))
+    pub pin_sck : b ≡ true → 1 ≡ pin_of w
+    unfolding pin_of
+    pin_sck t = sym (rw (no p₁ q₁, yes p₂ t))
 
     module _ (q₂ : b ≡ false) {c : Bool} (p₃ : c ≡ named w (ascii "si")) where
-      pub pin-si : c ≡ true → 2 ≡ pinOf w
-      unfolding pinOf
-      pin-si t = sym (rw (no p₁ q₁, no p₂ q₂, yes p₃ t))
+      pub pin_si : c ≡ true → 2 ≡ pin_of w
+      unfolding pin_of
+      pin_si t = sym (rw (no p₁ q₁, no p₂ q₂, yes p₃ t))
 
       module _ (q₃ : c ≡ false) {d : Bool} (p₄ : d ≡ named w (ascii "hold")) where
-        pub pin-hold : d ≡ true → 3 ≡ pinOf w
-        unfolding pinOf
-        pin-hold t = sym (rw (no p₁ q₁, no p₂ q₂, no p₃ q₃, yes p₄ t))
+        pub pin_hold : d ≡ true → 3 ≡ pin_of w
+        unfolding pin_of
+        pin_hold t = sym (rw (no p₁ q₁, no p₂ q₂, no p₃ q₃, yes p₄ t))
 
         module _ (q₄ : d ≡ false) {e : Bool} (p₅ : e ≡ named w (ascii "wp")) where
-          pub pin-wp : e ≡ true → 4 ≡ pinOf w
-          unfolding pinOf
-          pin-wp t = sym (rw (no p₁ q₁, no p₂ q₂, no p₃ q₃, no p₄ q₄, yes p₅ t))
+          pub pin_wp : e ≡ true → 4 ≡ pin_of w
+          unfolding pin_of
+          pin_wp t = sym (rw (no p₁ q₁, no p₂ q₂, no p₃ q₃, no p₄ q₄, yes p₅ t))
 
           module _ (q₅ : e ≡ false) {f : Bool} (p₆ : f ≡ named w (ascii "vdd")) where
-            pub pin-vdd : f ≡ true → 5 ≡ pinOf w
-            unfolding pinOf
-            pin-vdd t = sym (rw (no p₁ q₁, no p₂ q₂, no p₃ q₃, no p₄ q₄, no p₅ q₅, yes p₆ t))
+            pub pin_vdd : f ≡ true → 5 ≡ pin_of w
+            unfolding pin_of
+            pin_vdd t = sym (rw (no p₁ q₁, no p₂ q₂, no p₃ q₃, no p₄ q₄, no p₅ q₅, yes p₆ t))
 
-            pub pin-none : f ≡ false → pins ≡ pinOf w
-            unfolding pinOf
-            pin-none t = sym (rw (no p₁ q₁, no p₂ q₂, no p₃ q₃, no p₄ q₄, no p₅ q₅, no p₆ t))
+            pub pin_none : f ≡ false → pins ≡ pin_of w
+            unfolding pin_of
+            pin_none t = sym (rw (no p₁ q₁, no p₂ q₂, no p₃ q₃, no p₄ q₄, no p₅ q₅, no p₆ t))
 
 -- ---- the other words
 
 module _ (w : List ℕ) {a : Bool} (p₁ : a ≡ named w (ascii "cut")) where
-  pub said-cut : {r : Said} → a ≡ true → r ≡ itself 10 → r ≡ saidVerb w
-  unfolding saidVerb
-  said-cut t z = z ∙ sym (rw (yes p₁ t))
+  pub said_cut : {r : Said} → a ≡ true → r ≡ itself 10 → r ≡ said_verb w
+  unfolding said_verb
+  said_cut t z = z ∙ sym (rw (yes p₁ t))
 
   module _ (q₁ : a ≡ false) {b : Bool} (p₂ : b ≡ named w (ascii "power")) where
-    pub said-power : {r : Said} → b ≡ true → r ≡ itself 11 → r ≡ saidVerb w
-    unfolding saidVerb
-    said-power t z = z ∙ sym (rw (no p₁ q₁, yes p₂ t))
+    pub said_power : {r : Said} → b ≡ true → r ≡ itself 11 → r ≡ said_verb w
+    unfolding said_verb
+    said_power t z = z ∙ sym (rw (no p₁ q₁, yes p₂ t))
 
     module _ (q₂ : b ≡ false) {c : Bool} (p₃ : c ≡ named w (ascii "idle")) where
-      pub said-idle : {r : Said} → c ≡ true → r ≡ said.Then next.Idle → r ≡ saidVerb w
-      unfolding saidVerb
-      said-idle t z = z ∙ sym (rw (no p₁ q₁, no p₂ q₂, yes p₃ t))
+      pub said_idle_lem : {r : Said} → c ≡ true → r ≡ said.Then next.Idle → r ≡ said_verb w
+      unfolding said_verb
+      said_idle_lem t z = z ∙ sym (rw (no p₁ q₁, no p₂ q₂, yes p₃ t))
 
       module _ (q₃ : c ≡ false) {d : Bool} (p₄ : d ≡ named w (ascii "held")) where
-        pub said-held : {r : Said} → d ≡ true → r ≡ said.Then next.Held → r ≡ saidVerb w
-        unfolding saidVerb
-        said-held t z = z ∙ sym (rw (no p₁ q₁, no p₂ q₂, no p₃ q₃, yes p₄ t))
+        pub said_held_lem : {r : Said} → d ≡ true → r ≡ said.Then next.Held → r ≡ said_verb w
+        unfolding said_verb
+        said_held_lem t z = z ∙ sym (rw (no p₁ q₁, no p₂ q₂, no p₃ q₃, yes p₄ t))
 
         module _ (q₄ : d ≡ false) {e : Bool} (p₅ : e ≡ named w (ascii "bits")) where
-          pub said-bits : {r : Said} → e ≡ true → r ≡ said.Then next.Bits → r ≡ saidVerb w
-          unfolding saidVerb
-          said-bits t z = z ∙ sym (rw (no p₁ q₁, no p₂ q₂, no p₃ q₃, no p₄ q₄, yes p₅ t))
+          pub said_bits_lem : {r : Said} → e ≡ true → r ≡ said.Then next.Bits → r ≡ said_verb w
+          unfolding said_verb
+          said_bits_lem t z = z ∙ sym (rw (no p₁ q₁, no p₂ q₂, no p₃ q₃, no p₄ q₄, yes p₅ t))
 
           module _ (q₅ : e ≡ false) {f : Bool} (p₆ : f ≡ named w (ascii "item")) where
-            pub said-item : {r : Said} → f ≡ true → r ≡ said.Then next.Item → r ≡ saidVerb w
-            unfolding saidVerb
-            said-item t z = z ∙ sym (rw (no p₁ q₁, no p₂ q₂, no p₃ q₃, no p₄ q₄, no p₅ q₅, yes p₆ t))
+            pub said_item_lem : {r : Said} → f ≡ true → r ≡ said.Then next.Item → r ≡ said_verb w
+            unfolding said_verb
+            said_item_lem t z = z ∙ sym (rw (no p₁ q₁, no p₂ q₂, no p₃ q₃, no p₄ q₄, no p₅ q₅, yes p₆ t))
 
-            pub said-none : f ≡ false → said.Wrong ≡ saidVerb w
-            unfolding saidVerb
-            said-none t = sym (rw (no p₁ q₁, no p₂ q₂, no p₃ q₃, no p₄ q₄, no p₅ q₅, no p₆ t))
+            pub said_none : f ≡ false → said.Wrong ≡ said_verb w
+            unfolding said_verb
+            said_none t = sym (rw (no p₁ q₁, no p₂ q₂, no p₃ q₃, no p₄ q₄, no p₅ q₅, no p₆ t))

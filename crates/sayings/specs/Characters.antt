@@ -31,8 +31,8 @@ unfoldable pub lowered : ℕ → ℕ
 lowered c = cond (within (char "A") (char "Z") c) (c + 32) c
 
 -- the value of a hex digit, and 16 of any other character
-unfoldable pub digitOf : ℕ → ℕ
-digitOf c =
+unfoldable pub digit_of : ℕ → ℕ
+digit_of c =
     cond (within (char "0") (char "9") c) (c - char "0")
     (cond (within (char "A") (char "F") c) (c - char "A" + 10)
     (cond (within (char "a") (char "f") c) (c - char "a" + 10)

@@ -2,10 +2,10 @@
 use Rattle.std.specs.Prelude.{◌≡◌, refl, Bool, true, false, cond, ◌&&◌, List, [], ◌∷◌, ℕ, ◌+◌, ◌-◌, ◌*◌, ◌≤◌, leb, ltb, eqb, length, get_or}
 use Rattle.std.proofs.Common.{arith, leb-true, leb-false, ltb-true}
 use Rattle.laws.specs.TestLaws.{left, right, choose}
-use Rattle.trace.specs.Figures.{largest, lastByte}
-use Rattle.sayings.specs.Characters.{ascii, char, within, digitOf}
-use Rattle.sayings.specs.Words.{named, byte_of, digitsAfter, number_of, allBits}
-use Rattle.sayings.specs.Says.{pins, counted, pinOf, itself, saidVerb, any_of, saidAny, saidName, saidPart, saidKept, saidLevel, mostPulses, onlyPulses, pulsesOf, saidIdle, saidHeld, saidBits, saidItem, saidWord, saidEnd}
+use Rattle.trace.specs.Figures.{largest, last_byte}
+use Rattle.sayings.specs.Characters.{ascii, char, within, digit_of}
+use Rattle.sayings.specs.Words.{named, byte_of, digits_after, number_of, all_bits}
+use Rattle.sayings.specs.Says.{pins, counted, pin_of, itself, said_verb, any_of, said_any, said_name, said_part, said_kept, said_level, most_pulses, only_pulses, pulses_of, said_idle, said_held, said_bits, said_item, said_word, said_end}
 use Rattle.sayings.specs.declared.words.Numeral.{Numeral}
 use Rattle.sayings.specs.declared.words.Numeral.TheVariants.{Not, Is}
 use Rattle.sayings.specs.declared.says.Next.{Next}
@@ -20,20 +20,20 @@ AtMost most (Is n) = n ≤ most
 
 -- ---- digits, and numbers that words are
 
-pub digit-small : (c : ℕ) → digitOf c ≤ 255
-unfolding digitOf
-digit-small c =
-    bounded-by (within (char "0") (char "9") c) (c - char "0") (λ e. omega (arith, leb-true c 57 (right (leb 48 c) (leb c 57) e)))
-    (bounded-by (within (char "A") (char "F") c) (c - char "A" + 10) (λ e. omega (arith, leb-true c 70 (right (leb 65 c) (leb c 70) e)))
-    (bounded-by (within (char "a") (char "f") c) (c - char "a" + 10) (λ e. omega (arith, leb-true c 102 (right (leb 97 c) (leb c 102) e)))
+pub digit_small : (c : ℕ) → digit_of c ≤ 255
+unfolding digit_of
+digit_small c =
+    bounded_by (within (char "0") (char "9") c) (c - char "0") (λ e. omega (arith, leb-true c 57 (right (leb 48 c) (leb c 57) e)))
+    (bounded_by (within (char "A") (char "F") c) (c - char "A" + 10) (λ e. omega (arith, leb-true c 70 (right (leb 65 c) (leb c 70) e)))
+    (bounded_by (within (char "a") (char "f") c) (c - char "a" + 10) (λ e. omega (arith, leb-true c 102 (right (leb 97 c) (leb c 102) e)))
     (omega arith)))
   where
-    bounded-by : (t : Bool) (a : ℕ) {b : ℕ} → (t ≡ true → a ≤ 255) → b ≤ 255 → cond t a b ≤ 255
-    bounded-by true a f q = f refl
-    bounded-by false a f q = q
+    bounded_by : (t : Bool) (a : ℕ) {b : ℕ} → (t ≡ true → a ≤ 255) → b ≤ 255 → cond t a b ≤ 255
+    bounded_by true a f q = f refl
+    bounded_by false a f q = q
 
-byte-value : (h l : ℕ) (t : Bool) → (t && (ltb h 16 && ltb l 16)) ≡ true → h * 16 + l ≤ 255
-byte-value h l t e =
+byte_value : (h l : ℕ) (t : Bool) → (t && (ltb h 16 && ltb l 16)) ≡ true → h * 16 + l ≤ 255
+byte_value h l t e =
     let q = right t (ltb h 16 && ltb l 16) e in
     omega (arith, ltb-true h 16 (left (ltb h 16) (ltb l 16) q), ltb-true l 16 (right (ltb h 16) (ltb l 16) q))
 
@@ -43,28 +43,28 @@ chosen most n false h = tt
 
 pub byte_fits : (w : List ℕ) → AtMost 255 (byte_of w)
 unfolding byte_of
-byte_fits w = chosen 255 _ (eqb (length w) 2 && (ltb (digitOf (get_or w 0 0)) 16 && ltb (digitOf (get_or w 1 0)) 16)) (byte-value (digitOf (get_or w 0 0)) (digitOf (get_or w 1 0)) (eqb (length w) 2))
+byte_fits w = chosen 255 _ (eqb (length w) 2 && (ltb (digit_of (get_or w 0 0)) 16 && ltb (digit_of (get_or w 1 0)) 16)) (byte_value (digit_of (get_or w 0 0)) (digit_of (get_or w 1 0)) (eqb (length w) 2))
 
-pick-fits : (s t : Bool) (n : Numeral) → (t ≡ true → AtMost largest n) → AtMost largest (cond (s && t) n Not)
-pick-fits true true n h = h refl
-pick-fits true false n h = tt
-pick-fits false t n h = tt
+pick_fits : (s t : Bool) (n : Numeral) → (t ≡ true → AtMost largest n) → AtMost largest (cond (s && t) n Not)
+pick_fits true true n h = h refl
+pick_fits true false n h = tt
+pick_fits false t n h = tt
 
-digits-fit : (n : ℕ) (w : List ℕ) → n ≤ largest → AtMost largest (digitsAfter n w)
-digits-fit n [] h = h
-digits-fit n (c ∷ cs) h =
-    pick-fits (ltb (digitOf c) 10) (leb (n * 10 + digitOf c) largest) (digitsAfter (n * 10 + digitOf c) cs) (λ e. digits-fit (n * 10 + digitOf c) cs (leb-true (n * 10 + digitOf c) largest e))
+digits_fit : (n : ℕ) (w : List ℕ) → n ≤ largest → AtMost largest (digits_after n w)
+digits_fit n [] h = h
+digits_fit n (c ∷ cs) h =
+    pick_fits (ltb (digit_of c) 10) (leb (n * 10 + digit_of c) largest) (digits_after (n * 10 + digit_of c) cs) (λ e. digits_fit (n * 10 + digit_of c) cs (leb-true (n * 10 + digit_of c) largest e))
 
 pub number_fits : (w : List ℕ) → AtMost largest (number_of w)
 unfolding number_of
-number_fits w = digits-fit 0 w (omega arith)
+number_fits w = digits_fit 0 w (omega arith)
 
-pub pulses-fit : (w : List ℕ) → AtMost mostPulses (pulsesOf w)
-unfolding pulsesOf
-pulses-fit w = go (number_of w)
+pub pulses_fit : (w : List ℕ) → AtMost most_pulses (pulses_of w)
+unfolding pulses_of
+pulses_fit w = go (number_of w)
   where
-    go : (n : Numeral) → AtMost mostPulses (onlyPulses n)
-    go (Is n) = chosen mostPulses n (leb 1 n && leb n mostPulses) (λ e. leb-true n mostPulses (right (leb 1 n) (leb n mostPulses) e))
+    go : (n : Numeral) → AtMost most_pulses (only_pulses n)
+    go (Is n) = chosen most_pulses n (leb 1 n && leb n most_pulses) (λ e. leb-true n most_pulses (right (leb 1 n) (leb n most_pulses) e))
     go Not = tt
 
 pub bounded : {n most : ℕ} {r a : Numeral} → r ≡ a → r ≡ Is n → AtMost most a → n ≤ most
@@ -79,17 +79,17 @@ Fits (said.Then n) = Unit {0}
 Fits (said.One item n) = item ≤ largest
 Fits (said.Byte byte) = byte ≤ 255
 Fits said.Close = Unit {0}
-Fits (said.InHold pulses) = pulses ≤ mostPulses
+Fits (said.InHold pulses) = pulses ≤ most_pulses
 Fits said.Clocked = Unit {0}
 
 -- of a word that is a number
-counted-fits : (most : ℕ) (f : ℕ → Said) (n : Numeral) → ((k : ℕ) → k ≤ most → Fits (f k)) → AtMost most n → Fits (counted n f)
-counted-fits most f Not h a = tt
-counted-fits most f (Is n) h a = h n a
+counted_fits : (most : ℕ) (f : ℕ → Said) (n : Numeral) → ((k : ℕ) → k ≤ most → Fits (f k)) → AtMost most n → Fits (counted n f)
+counted_fits most f Not h a = tt
+counted_fits most f (Is n) h a = h n a
 
-verb-fits : (w : List ℕ) → Fits (saidVerb w)
-unfolding saidVerb
-verb-fits w =
+verb_fits : (w : List ℕ) → Fits (said_verb w)
+unfolding said_verb
+verb_fits w =
     choose Fits (named w (ascii "cut")) (omega arith)
     (choose Fits (named w (ascii "power")) (omega arith)
     (choose Fits (named w (ascii "idle")) tt
@@ -98,17 +98,17 @@ verb-fits w =
     (choose Fits (named w (ascii "item")) tt
     tt)))))
 
-any-fits : (w : List ℕ) → Fits (saidAny w)
-unfolding saidAny
-any-fits w = go (byte_of w) (byte_fits w)
+any_fits : (w : List ℕ) → Fits (said_any w)
+unfolding said_any
+any_fits w = go (byte_of w) (byte_fits w)
   where
     go : (n : Numeral) → AtMost 255 n → Fits (any_of n w)
     go (Is n) h = h
-    go Not h = choose Fits (ltb (pinOf w) pins) tt (verb-fits w)
+    go Not h = choose Fits (ltb (pin_of w) pins) tt (verb_fits w)
 
-level-fits : (w : List ℕ) (pin : ℕ) → Fits (saidLevel w pin)
-unfolding saidLevel
-level-fits w pin = go (leb pins pin) refl
+level_fits : (w : List ℕ) (pin : ℕ) → Fits (said_level w pin)
+unfolding said_level
+level_fits w pin = go (leb pins pin) refl
   where
     go : (t : Bool) → leb pins pin ≡ t → Fits (cond t said.Wrong (cond (named w (ascii "low")) (itself (pin * 2)) (cond (named w (ascii "high")) (itself (pin * 2 + 1)) said.Wrong)))
     go true e = tt
@@ -116,50 +116,50 @@ level-fits w pin = go (leb pins pin) refl
         let few = leb-false pins pin e in
         choose Fits (named w (ascii "low")) (omega arith) (choose Fits (named w (ascii "high")) (omega arith) tt)
 
-part-fits : (w : List ℕ) → Fits (saidPart w)
-unfolding saidPart
-part-fits w = counted-fits largest (λ n. cond (leb n lastByte) (said.One n next.Kept) said.Wrong) (number_of w) (λ k h. choose Fits (leb k lastByte) h tt) (number_fits w)
+part_fits : (w : List ℕ) → Fits (said_part w)
+unfolding said_part
+part_fits w = counted_fits largest (λ n. cond (leb n last_byte) (said.One n next.Kept) said.Wrong) (number_of w) (λ k h. choose Fits (leb k last_byte) h tt) (number_fits w)
 
-kept-fits : (w : List ℕ) → Fits (saidKept w)
-unfolding saidKept
-kept-fits w = counted-fits 255 (λ n. said.One n next.LineEnd) (byte_of w) (λ k h. omega arith) (byte_fits w)
+kept_fits : (w : List ℕ) → Fits (said_kept w)
+unfolding said_kept
+kept_fits w = counted_fits 255 (λ n. said.One n next.LineEnd) (byte_of w) (λ k h. omega arith) (byte_fits w)
 
-idle-fits : (w : List ℕ) → Fits (saidIdle w)
-unfolding saidIdle
-idle-fits w = counted-fits mostPulses (λ n. itself (lastByte + n)) (pulsesOf w) (λ k h. omega arith) (pulses-fit w)
+idle_fits : (w : List ℕ) → Fits (said_idle w)
+unfolding said_idle
+idle_fits w = counted_fits most_pulses (λ n. itself (last_byte + n)) (pulses_of w) (λ k h. omega arith) (pulses_fit w)
 
-held_fits : (w : List ℕ) → Fits (saidHeld w)
-unfolding saidHeld
-held_fits w = counted-fits mostPulses said.InHold (pulsesOf w) (λ k h. h) (pulses-fit w)
+held_fits : (w : List ℕ) → Fits (said_held w)
+unfolding said_held
+held_fits w = counted_fits most_pulses said.InHold (pulses_of w) (λ k h. h) (pulses_fit w)
 
-bits_fit : (w : List ℕ) → Fits (saidBits w)
-unfolding saidBits
-bits_fit w = choose Fits (allBits w) tt tt
+bits_fit : (w : List ℕ) → Fits (said_bits w)
+unfolding said_bits
+bits_fit w = choose Fits (all_bits w) tt tt
 
-item-fits : (w : List ℕ) → Fits (saidItem w)
-unfolding saidItem
-item-fits w = counted-fits largest itself (number_of w) (λ k h. h) (number_fits w)
+item_fits : (w : List ℕ) → Fits (said_item w)
+unfolding said_item
+item_fits w = counted_fits largest itself (number_of w) (λ k h. h) (number_fits w)
 
-name-fits : (w name : List ℕ) (n : Next) → Fits (saidName w name n)
-unfolding saidName
-name-fits w name n = choose Fits (named w name) tt tt
+name_fits : (w name : List ℕ) (n : Next) → Fits (said_name w name n)
+unfolding said_name
+name_fits w name n = choose Fits (named w name) tt tt
 
-pub word_fits : (n : Next) (w : List ℕ) → Fits (saidWord n w)
-unfolding saidWord
-word_fits next.Part w = name-fits w (ascii "part") next.PartNumber
-word_fits next.PartNumber w = part-fits w
-word_fits next.Kept w = name-fits w (ascii "kept") next.KeptByte
-word_fits next.KeptByte w = kept-fits w
+pub word_fits : (n : Next) (w : List ℕ) → Fits (said_word n w)
+unfolding said_word
+word_fits next.Part w = name_fits w (ascii "part") next.PartNumber
+word_fits next.PartNumber w = part_fits w
+word_fits next.Kept w = name_fits w (ascii "kept") next.KeptByte
+word_fits next.KeptByte w = kept_fits w
 word_fits next.LineEnd w = tt
-word_fits next.Word w = any-fits w
-word_fits (next.Level pin) w = level-fits w pin
-word_fits next.Idle w = idle-fits w
+word_fits next.Word w = any_fits w
+word_fits (next.Level pin) w = level_fits w pin
+word_fits next.Idle w = idle_fits w
 word_fits next.Held w = held_fits w
 word_fits next.Bits w = bits_fit w
-word_fits next.Item w = item-fits w
+word_fits next.Item w = item_fits w
 
-pub end_fits : (selected : Bool) (n : Next) → Fits (saidEnd selected n)
-unfolding saidEnd
+pub end_fits : (selected : Bool) (n : Next) → Fits (said_end selected n)
+unfolding said_end
 end_fits selected next.Part = tt
 end_fits selected next.PartNumber = tt
 end_fits selected next.Kept = omega arith

@@ -1,6 +1,6 @@
 // Characters: what each is for the parting of words, as a letter of a word, and as a digit.
 ghost use Rattle.std.specs.Prelude.{◌≡◌};
-ghost use Rattle.sayings.specs.Characters.{kind_of, lowered, digitOf};
+ghost use Rattle.sayings.specs.Characters.{kind_of, lowered, digit_of};
 
 // What a character is outside a comment.
 #[derive(Drop)]
@@ -39,7 +39,7 @@ pub(crate) fn lower(c: u8) -> u8
 
 // The value of a hex digit, capital or small, and 16 of any other character.
 pub fn digit(c: u8) -> u8
-    ensures { result ≡ digitOf c }
+    ensures { result ≡ digit_of c }
 {
     if (b'0' <= c) & (c <= b'9') {
         return c - b'0';

@@ -1,20 +1,20 @@
 // What a word says where it stands, and what a line's end says.
 ghost use Rattle.std.specs.Prelude.{◌≡◌};
 ghost use Rattle.sayings.specs.Says.{
-  pinOf,
-  saidVerb,
-  saidAny,
-  saidName,
-  saidPart,
-  saidKept,
-  saidLevel,
-  pulsesOf,
-  saidIdle,
-  saidHeld,
-  saidBits,
-  saidItem,
-  saidWord,
-  saidEnd,
+  pin_of,
+  said_verb,
+  said_any,
+  said_name,
+  said_part,
+  said_kept,
+  said_level,
+  pulses_of,
+  said_idle,
+  said_held,
+  said_bits,
+  said_item,
+  said_word,
+  said_end,
 };
 
 use crate::words::{Numeral, all_bits, byte_of, number_of, same, wide};
@@ -58,7 +58,7 @@ pub enum Said {
 
 // The number of the pin that a word names, and 6 where it names none.
 fn pin_of(word: &[u8]) -> u8
-    ensures { result ≡ pinOf word.now }
+    ensures { result ≡ pin_of word.now }
 {
     if same(word, b"cs") {
         return 0;
@@ -83,7 +83,7 @@ fn pin_of(word: &[u8]) -> u8
 
 // A word that names power or asks for a number or bits.
 fn hear_verb(word: &[u8]) -> Said
-    ensures { result ≡ saidVerb word.now }
+    ensures { result ≡ said_verb word.now }
 {
     if same(word, b"cut") {
         return one(10);
@@ -124,7 +124,7 @@ fn then(next: Next) -> Said
 
 // Any word of a line but the first: a byte, a pin, or one of the other words.
 fn hear_any(word: &[u8]) -> Said
-    ensures { result ≡ saidAny word.now }
+    ensures { result ≡ said_any word.now }
 {
     match byte_of(word) {
         Numeral::Is { n } => Said::Byte { byte: n },
@@ -141,7 +141,7 @@ fn hear_any(word: &[u8]) -> Said
 
 // `part`, and `kept`.
 fn hear_name(word: &[u8], name: &[u8], next: Next) -> Said
-    ensures { result ≡ saidName word.now name.now next }
+    ensures { result ≡ said_name word.now name.now next }
 {
     if same(word, name) {
         return then(next);
@@ -151,7 +151,7 @@ fn hear_name(word: &[u8], name: &[u8], next: Next) -> Said
 
 // The part's number.
 fn hear_part(word: &[u8]) -> Said
-    ensures { result ≡ saidPart word.now }
+    ensures { result ≡ said_part word.now }
 {
     match number_of(word) {
         Numeral::Is { n } => if n <= LAST_BYTE {
@@ -168,7 +168,7 @@ fn hear_part(word: &[u8]) -> Said
 
 // The kept bits.
 fn hear_kept(word: &[u8]) -> Said
-    ensures { result ≡ saidKept word.now }
+    ensures { result ≡ said_kept word.now }
 {
     match byte_of(word) {
         Numeral::Is { n } => Said::One {
@@ -181,7 +181,7 @@ fn hear_kept(word: &[u8]) -> Said
 
 // The level of a pin: its event. No other word asks for a level.
 fn hear_level(word: &[u8], pin: u8) -> Said
-    ensures { result ≡ saidLevel word.now pin }
+    ensures { result ≡ said_level word.now pin }
 {
     if PINS <= pin {
         return Said::Wrong;
@@ -198,7 +198,7 @@ fn hear_level(word: &[u8], pin: u8) -> Said
 
 // A number of pulses: one at least, and no more than an item can say.
 fn pulses_of(word: &[u8]) -> Numeral
-    ensures { result ≡ pulsesOf word.now }
+    ensures { result ≡ pulses_of word.now }
 {
     match number_of(word) {
         Numeral::Is { n } => if (1 <= n) & (n <= MOST_PULSES) {
@@ -211,7 +211,7 @@ fn pulses_of(word: &[u8]) -> Numeral
 }
 
 fn hear_idle(word: &[u8]) -> Said
-    ensures { result ≡ saidIdle word.now }
+    ensures { result ≡ said_idle word.now }
 {
     match pulses_of(word) {
         Numeral::Is { n } => one(LAST_BYTE + n),
@@ -220,7 +220,7 @@ fn hear_idle(word: &[u8]) -> Said
 }
 
 fn hear_held(word: &[u8]) -> Said
-    ensures { result ≡ saidHeld word.now }
+    ensures { result ≡ said_held word.now }
 {
     match pulses_of(word) {
         Numeral::Is { n } => Said::InHold { pulses: n },
@@ -229,7 +229,7 @@ fn hear_held(word: &[u8]) -> Said
 }
 
 fn hear_bits(word: &[u8]) -> Said
-    ensures { result ≡ saidBits word.now }
+    ensures { result ≡ said_bits word.now }
 {
     if all_bits(word) {
         return Said::Clocked;
@@ -238,7 +238,7 @@ fn hear_bits(word: &[u8]) -> Said
 }
 
 fn hear_item(word: &[u8]) -> Said
-    ensures { result ≡ saidItem word.now }
+    ensures { result ≡ said_item word.now }
 {
     match number_of(word) {
         Numeral::Is { n } => one(n),
@@ -248,7 +248,7 @@ fn hear_item(word: &[u8]) -> Said
 
 // What a word says where `next` may stand.
 pub fn hear(next: Next, word: &[u8]) -> Said
-    ensures { result ≡ saidWord next word.now }
+    ensures { result ≡ said_word next word.now }
 {
     match next {
         Next::Part => hear_name(word, b"part", Next::PartNumber),
@@ -268,7 +268,7 @@ pub fn hear(next: Next, word: &[u8]) -> Said
 // What a line's end says: no line ends where a word is still asked for. The kept bits may be left out and are then 0;
 // a select of the line is closed.
 pub fn hear_end(selected: bool, next: Next) -> Said
-    ensures { result ≡ saidEnd selected next }
+    ensures { result ≡ said_end selected next }
 {
     match next {
         Next::Part => then(Next::Part),

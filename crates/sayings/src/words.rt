@@ -1,6 +1,6 @@
 // Words as names, bytes and numbers.
 ghost use Rattle.std.specs.Prelude.{◌≡◌};
-ghost use Rattle.sayings.specs.Words.{named, byte_of, number_of, allBits};
+ghost use Rattle.sayings.specs.Words.{named, byte_of, number_of, all_bits};
 
 use crate::chars::{digit, lower};
 use trace::number::LARGEST;
@@ -75,7 +75,7 @@ pub(crate) fn number_of(word: &[u8]) -> Numeral
 
 // Whether each character is a bit.
 pub(crate) fn all_bits(word: &[u8]) -> bool
-    ensures { result ≡ allBits word.now }
+    ensures { result ≡ all_bits word.now }
 {
     let mut i = 0;
     while i < word.len() {

@@ -1,6 +1,6 @@
 // A seen fall of SCK in a select: output moves.
 ghost use Rattle.std.specs.Prelude.{◌≡◌, get_or};
-ghost use Rattle.select.specs.Fall.{statusByte, showArray, showStatus, showIdent, nextIdent, showSerial, nextSerial, fall, stageLevel};
+ghost use Rattle.select.specs.Fall.{status_byte, show_array, show_status, show_ident, next_ident, show_serial, next_serial, fall, stage_level};
 
 use crate::notes::Level;
 use parts::figures::{Figure, IDENT};
@@ -10,7 +10,7 @@ use stages::stage::{End, Line, Stage, What};
 
 // The status byte that RDSR shows.
 pub fn status_byte(f: Figure, kept: u8, latch: bool) -> u8
-    ensures { result ≡ statusByte f kept latch }
+    ensures { result ≡ status_byte f kept latch }
 {
     if latch { kept | f.latch } else { kept }
 }
@@ -24,7 +24,7 @@ fn byte_at(array: &[u8], at: usize) -> u8
 
 // One bit of the array put on SO.
 fn show_array(array: &[u8], at: usize, bit: u16) -> Stage
-    ensures { result ≡ showArray array.now at bit }
+    ensures { result ≡ show_array array.now at bit }
 {
     let byte = byte_at(array, at);
     let level = bit_of(byte, bit);
@@ -33,7 +33,7 @@ fn show_array(array: &[u8], at: usize, bit: u16) -> Stage
 
 // One bit of the status byte put on SO.
 fn show_status(status: u8, bit: u16) -> Stage
-    ensures { result ≡ showStatus status bit }
+    ensures { result ≡ show_status status bit }
 {
     let level = bit_of(status, bit);
     Stage::StatusOut { level, bit }
@@ -41,7 +41,7 @@ fn show_status(status: u8, bit: u16) -> Stage
 
 // One bit of the identification put on SO.
 fn show_ident(f: Figure, at: usize, bit: u16) -> Stage
-    ensures { result ≡ showIdent f at bit }
+    ensures { result ≡ show_ident f at bit }
 {
     let ident = f.ident;
     let device = byte_at(&ident, at);
@@ -51,7 +51,7 @@ fn show_ident(f: Figure, at: usize, bit: u16) -> Stage
 
 // Past a byte of the identification: the next, or nothing more.
 fn next_ident(f: Figure, at: usize) -> Stage
-    ensures { result ≡ nextIdent f at }
+    ensures { result ≡ next_ident f at }
 {
     if at < IDENT - 1 {
         show_ident(f, at + 1, 7)
@@ -62,7 +62,7 @@ fn next_ident(f: Figure, at: usize) -> Stage
 
 // One bit of the serial number, as it is lent to this call, put on SO.
 fn show_serial(serial: &[u8], at: usize, bit: u16) -> Stage
-    ensures { result ≡ showSerial serial.now at bit }
+    ensures { result ≡ show_serial serial.now at bit }
 {
     let byte = byte_at(serial, at);
     let level = bit_of(byte, bit);
@@ -71,7 +71,7 @@ fn show_serial(serial: &[u8], at: usize, bit: u16) -> Stage
 
 // Past a byte of the serial number: the next, or nothing more.
 fn next_serial(f: Figure, serial: &[u8], at: usize) -> Stage
-    ensures { result ≡ nextSerial f serial.now at }
+    ensures { result ≡ next_serial f serial.now at }
 {
     if at < f.serial {
         let next = at + 1;
@@ -127,7 +127,7 @@ pub fn fall(f: Figure, array: &[u8], serial: &[u8], status: u8, stage: Stage) ->
 
 // The level that a select puts on SO.
 pub fn stage_level(stage: Stage) -> Level
-    ensures { result ≡ stageLevel stage }
+    ensures { result ≡ stage_level stage }
 {
     match stage {
         Stage::Closed => Level::Released,

@@ -1,6 +1,6 @@
 // A seen rise of SCK in a select.
 ghost use Rattle.std.specs.Prelude.{◌≡◌};
-ghost use Rattle.select.specs.Rise.{quiet, opened, codeRise, upperRise, lowerRise, dummyRise, storeNote, writeRise, keepRise, rise};
+ghost use Rattle.select.specs.Rise.{quiet, opened, code_rise, upper_rise, lower_rise, dummy_rise, store_note, write_rise, keep_rise, rise};
 
 use crate::notes::Note;
 use parts::commands::{Command, decode};
@@ -93,7 +93,7 @@ fn open(f: Figure, seen: Seen, wp: Line, code: u8) -> Risen
 
 // A bit of the op-code.
 fn code_rise(f: Figure, seen: Seen, wp: Line, shift: u16) -> Risen
-    ensures { result ≡ codeRise f seen wp shift }
+    ensures { result ≡ code_rise f seen wp shift }
 {
     let taken = take_bit(shift, seen.si);
     match taken {
@@ -104,7 +104,7 @@ fn code_rise(f: Figure, seen: Seen, wp: Line, shift: u16) -> Risen
 
 // A bit of the upper address byte, where the part has two.
 fn upper_rise(f: Figure, seen: Seen, purpose: Purpose, shift: u16) -> Risen
-    ensures { result ≡ upperRise f seen purpose shift }
+    ensures { result ≡ upper_rise f seen purpose shift }
 {
     let taken = take_bit(shift, seen.si);
     match taken {
@@ -125,7 +125,7 @@ fn upper_rise(f: Figure, seen: Seen, purpose: Purpose, shift: u16) -> Risen
 
 // A bit of the last address byte.
 fn lower_rise(f: Figure, seen: Seen, purpose: Purpose, shift: u16, page: u32) -> Risen
-    ensures { result ≡ lowerRise f seen purpose shift page }
+    ensures { result ≡ lower_rise f seen purpose shift page }
 {
     let taken = take_bit(shift, seen.si);
     match taken {
@@ -143,7 +143,7 @@ fn lower_rise(f: Figure, seen: Seen, purpose: Purpose, shift: u16, page: u32) ->
 
 // The dummy byte after an FSTRD's address: whatever it is, output is next.
 fn dummy_rise(seen: Seen, shift: u16, at: usize) -> Risen
-    ensures { result ≡ dummyRise seen shift at }
+    ensures { result ≡ dummy_rise seen shift at }
 {
     let taken = take_bit(shift, seen.si);
     match taken {
@@ -160,7 +160,7 @@ fn dummy_rise(seen: Seen, shift: u16, at: usize) -> Risen
 
 // Held back or not, the note names the address.
 fn store_note(at: usize, byte: u8, verdict: Verdict) -> Note
-    ensures { result ≡ storeNote at byte verdict }
+    ensures { result ≡ store_note at byte verdict }
 {
     match verdict {
         Verdict::Allowed => Note::Stored(at, byte),
@@ -170,7 +170,7 @@ fn store_note(at: usize, byte: u8, verdict: Verdict) -> Note
 
 // A data byte of a WRITE: stored or held back at its eighth rise, and the address steps. The order of the calls is timed (docs/SPEED.md).
 fn write_rise(f: Figure, seen: Seen, came: Came, shift: u16, last: u32, at: usize) -> Risen
-    ensures { result ≡ writeRise f seen came shift last at }
+    ensures { result ≡ write_rise f seen came shift last at }
 {
     let taken = take_bit(shift, seen.si);
     let came = byte_came(came, shift, seen.wp);
@@ -206,7 +206,7 @@ fn write_rise(f: Figure, seen: Seen, came: Came, shift: u16, last: u32, at: usiz
 
 // The first data byte of a WRSR: kept under the mask or held back at its eighth rise.
 fn keep_rise(f: Figure, seen: Seen, wp: Line, shift: u16) -> Risen
-    ensures { result ≡ keepRise f seen wp shift }
+    ensures { result ≡ keep_rise f seen wp shift }
 {
     let wp = byte_wp(f, wp, shift, seen.wp);
     let taken = take_bit(shift, seen.si);

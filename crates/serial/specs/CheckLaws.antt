@@ -2,12 +2,12 @@
 use Rattle.std.specs.Prelude.{ℕ, zero, suc, ◌-◌, ◌<◌, ◌≡◌, List, [], ◌∷◌, length, take, get_or}
 use Rattle.std.proofs.Common.{sym, ◌∙◌}
 use borrow.Author.Tests.{eq-eqb, ne_eqb}
-use Rattle.parts.specs.Figures.{serialBytes}
-use Rattle.serial.specs.Check.{divided, lastByte, checked}
-use Rattle.serial.specs.Division.{checkByte}
-use Rattle.serial.specs.DivisionLaws.{Bytes, by-table}
+use Rattle.parts.specs.Figures.{serial_bytes}
+use Rattle.serial.specs.Check.{divided, last_byte, checked}
+use Rattle.serial.specs.Division.{check_byte}
+use Rattle.serial.specs.DivisionLaws.{Bytes, by_table}
 use Rattle.serial.specs.Promises.{CheckPromise}
-use Rattle.serial.specs.Table.{crcOf}
+use Rattle.serial.specs.Table.{crc_of}
 use Rattle.serial.specs.declared.check.Checked.TheVariants.{Yes, No, WrongLength}
 
 -- the first bytes of a slice are bytes
@@ -17,18 +17,18 @@ bytes_of [] (suc n) small = tt
 bytes_of (x ∷ s) (suc n) small = (small 0, bytes_of s n (λ i. small (suc i)))
 
 -- the call, by its tests
-module _ (s : List ℕ) (small : (i : ℕ) → get_or s i 0 < 256) {crc : ℕ} (told : crc ≡ crcOf (divided s) 0) where
-  by-division : checkByte (divided s) ≡ crc
-  by-division = by-table (divided s) (bytes_of s (serialBytes - 1) small) ∙ sym told
+module _ (s : List ℕ) (small : (i : ℕ) → get_or s i 0 < 256) {crc : ℕ} (told : crc ≡ crc_of (divided s) 0) where
+  by_division : check_byte (divided s) ≡ crc
+  by_division = by_table (divided s) (bytes_of s (serial_bytes - 1) small) ∙ sym told
 
-  pub says-yes : length s ≡ serialBytes → crc ≡ lastByte s → CheckPromise s Yes
+  pub says_yes : length s ≡ serial_bytes → crc ≡ last_byte s → CheckPromise s Yes
   unfolding checked
-  says-yes long e = rw (eq-eqb _ _ long, by-division, eq-eqb _ _ e)
+  says_yes long e = rw (eq-eqb _ _ long, by_division, eq-eqb _ _ e)
 
-  pub says-no : length s ≡ serialBytes → (crc ≡ lastByte s → ⊥) → CheckPromise s No
+  pub says_no : length s ≡ serial_bytes → (crc ≡ last_byte s → ⊥) → CheckPromise s No
   unfolding checked
-  says-no long e = rw (eq-eqb _ _ long, by-division, ne_eqb _ _ e)
+  says_no long e = rw (eq-eqb _ _ long, by_division, ne_eqb _ _ e)
 
-pub says-fifteen : (s : List ℕ) → (length s ≡ serialBytes → ⊥) → CheckPromise s WrongLength
+pub says_fifteen : (s : List ℕ) → (length s ≡ serial_bytes → ⊥) → CheckPromise s WrongLength
 unfolding checked
-says-fifteen s e = rw (ne_eqb _ _ e)
+says_fifteen s e = rw (ne_eqb _ _ e)

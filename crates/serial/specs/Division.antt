@@ -8,14 +8,14 @@ abbrev pub divisor : List Bool
 divisor = false ∷ false ∷ false ∷ false ∷ false ∷ true ∷ true ∷ true ∷ []
 
 -- the sum of two coefficients; and of two polynomials, from their first coefficients on: where one ends, the rest is the other's
-abbrev pub plusBit : Bool → Bool → Bool
-plusBit false b = b
-plusBit true b = not b
+abbrev pub plus_bit : Bool → Bool → Bool
+plus_bit false b = b
+plus_bit true b = not b
 
 abbrev pub plus : List Bool → List Bool → List Bool
 plus [] bs = bs
 plus (a ∷ more) [] = a ∷ more
-plus (a ∷ more) (b ∷ bs) = plusBit a b ∷ plus more bs
+plus (a ∷ more) (b ∷ bs) = plus_bit a b ∷ plus more bs
 
 -- so many steps of the long division: where the first coefficient is 1 the divisor is taken away, which over bits is added; either
 -- way that power is done with
@@ -31,9 +31,9 @@ bit byte i = eqb (bit_at byte i) 1
 abbrev pub bits_of : ℕ → List Bool
 bits_of byte = bit byte 7 ∷ bit byte 6 ∷ bit byte 5 ∷ bit byte 4 ∷ bit byte 3 ∷ bit byte 2 ∷ bit byte 1 ∷ bit byte 0 ∷ []
 
-abbrev pub allBits : List ℕ → List Bool
-allBits [] = []
-allBits (byte ∷ bytes) = bits_of byte ++ allBits bytes
+abbrev pub all_bits : List ℕ → List Bool
+all_bits [] = []
+all_bits (byte ∷ bytes) = bits_of byte ++ all_bits bytes
 
 abbrev pub byte_of : List Bool → ℕ
 byte_of [] = 0
@@ -45,5 +45,5 @@ zeros = false ∷ false ∷ false ∷ false ∷ false ∷ false ∷ false ∷ fa
 
 -- the check byte of bytes: their polynomial times x^8, divided until eight coefficients are left. It starts from 0, no bits are turned
 -- round, and nothing is added at the end.
-unfoldable pub checkByte : List ℕ → ℕ
-checkByte bytes = byte_of (remainder (length bytes * 8) (allBits bytes ++ zeros))
+unfoldable pub check_byte : List ℕ → ℕ
+check_byte bytes = byte_of (remainder (length bytes * 8) (all_bits bytes ++ zeros))

@@ -1,12 +1,12 @@
 -- Examples, computed from the long division and the check alone, with no table. Assumes nothing.
 use Rattle.std.specs.Prelude.{ℕ, ◌≡◌, refl, true, false, List, [], ◌∷◌, map}
-use Rattle.serial.specs.Check.{checked, checkNumbers}
-use Rattle.serial.specs.Division.{remainder, bits_of, zeros, checkByte}
+use Rattle.serial.specs.Check.{checked, check_numbers}
+use Rattle.serial.specs.Division.{remainder, bits_of, zeros, check_byte}
 
 -- x^10 + x^8, so 101 and eight coefficients more, by hand: x^10 leaves x^4 + x^3 + x^2, x^8 leaves x^2 + x + 1, together
 -- x^4 + x^3 + x + 1
-two-powers : remainder 3 (true ∷ false ∷ true ∷ zeros) ≡ bits_of 0b0001_1011
-two-powers = refl
+two_powers : remainder 3 (true ∷ false ∷ true ∷ zeros) ≡ bits_of 0b0001_1011
+two_powers = refl
 
 record Example : Type 0 where
   bytes : List ℕ
@@ -29,9 +29,9 @@ divisions =
     ∷ leaves (0x02 ∷ 0x01 ∷ []) 0x2D
     ∷ []
 
-divisions-hold : map (λ (e : Example). checkByte e.bytes ∷ []) divisions ≡ map (λ (e : Example). e.gives) divisions
-unfolding divisions leaves checkByte
-divisions-hold = refl
+divisions_hold : map (λ (e : Example). check_byte e.bytes ∷ []) divisions ≡ map (λ (e : Example). e.gives) divisions
+unfolding divisions leaves check_byte
+divisions_hold = refl
 
 -- a serial number, and what its check answers
 yes : List ℕ → Example
@@ -66,6 +66,6 @@ serials =
     ∷ fifteen (0x00 ∷ 0x00 ∷ 0x00 ∷ 0x00 ∷ 0x00 ∷ 0x00 ∷ 0x00 ∷ 0x00 ∷ 0x00 ∷ [])
     ∷ []
 
-serials-hold : map (λ (e : Example). checkNumbers (checked e.bytes)) serials ≡ map (λ (e : Example). e.gives) serials
-unfolding serials yes no fifteen checked checkByte
-serials-hold = refl
+serials_hold : map (λ (e : Example). check_numbers (checked e.bytes)) serials ≡ map (λ (e : Example). e.gives) serials
+unfolding serials yes no fifteen checked check_byte
+serials_hold = refl

@@ -2,7 +2,7 @@
 -- document 004's table. Assumes nothing.
 use Rattle.std.specs.Prelude.{ℕ, zero, suc, List, [], ◌∷◌, map, get_or}
 use Rattle.std.specs.Int.Bits.{bit_xor}
-use Rattle.serial.specs.Division.{checkByte}
+use Rattle.serial.specs.Division.{check_byte}
 
 -- "as printed"
 unfoldable pub table : List ℕ
@@ -41,9 +41,9 @@ table =
     0xE6 ∷ 0xE1 ∷ 0xE8 ∷ 0xEF ∷ 0xFA ∷ 0xFD ∷ 0xF4 ∷ 0xF3 ∷ []
 
 -- "crc = crctable[crc ^ *pData++]"
-abbrev pub crcOf : List ℕ → ℕ → ℕ
-crcOf [] crc = crc
-crcOf (byte ∷ bytes) crc = crcOf bytes (get_or table (bit_xor crc byte) 0)
+abbrev pub crc_of : List ℕ → ℕ → ℕ
+crc_of [] crc = crc
+crc_of (byte ∷ bytes) crc = crc_of bytes (get_or table (bit_xor crc byte) 0)
 
 -- so many numbers, counted up from i
 abbrev pub up_from : ℕ → ℕ → List ℕ
@@ -52,4 +52,4 @@ up_from i (suc n) = i ∷ up_from (suc i) n
 
 -- "the rule behind it": each entry is the check byte, by the long division, of its place
 abbrev pub ruled : List ℕ
-ruled = map (λ (i : ℕ). checkByte (i ∷ [])) (up_from 0 256)
+ruled = map (λ (i : ℕ). check_byte (i ∷ [])) (up_from 0 256)

@@ -4,7 +4,7 @@
 ghost use Rattle.std.specs.Prelude.{◌≡◌, ◌<◌};
 ghost use Rattle.std.specs.Int.Bits.{bit_xor};
 ghost use Rattle.serial.specs.Promises.{CheckPromise};
-ghost use Rattle.serial.specs.Table.{crcOf, table};
+ghost use Rattle.serial.specs.Table.{crc_of, table};
 
 use parts::figures::SERIAL;
 
@@ -55,7 +55,7 @@ pub fn check(serial: &[u8]) -> Checked
 // each byte.
 fn crc_of(crcs: &[u8; 256], bytes: &[u8]) -> u8
     requires { crcs.now ≡ table }
-    ensures { result ≡ crcOf bytes.now 0 }
+    ensures { result ≡ crc_of bytes.now 0 }
 {
     let mut crc = 0u8;
     let mut i = 0;

@@ -9,39 +9,39 @@ use Rattle.spelling.specs.declared.spell.Answer.TheVariants as answer
 use Rattle.spelling.specs.declared.spell.Place.{Place}
 
 -- what may stand next, in words
-unfoldable pub expectedText : Next → List ℕ
-expectedText next.Part = ascii "the part, as in: part 1 kept 00"
-expectedText next.PartNumber = ascii "the part's number (0 to 267), as in: part 1 kept 00"
-expectedText next.Kept = ascii "kept or the line's end, as in: part 1 kept 00"
-expectedText next.KeptByte = ascii "the kept bits as two hex digits, as in: part 1 kept 00"
-expectedText next.LineEnd = ascii "the line's end"
-expectedText next.Word = ascii "two hex digits or a word (cs sck si hold wp vdd cut power idle held bits item)"
-expectedText (next.Level pin) = ascii "low or high"
-expectedText next.Idle = ascii "a number of pulses (1 to 268435188)"
-expectedText next.Held = ascii "a number of pulses (1 to 268435188)"
-expectedText next.Bits = ascii "bits, each 0 or 1"
-expectedText next.Item = ascii "an item's number (0 to 268435455)"
+unfoldable pub expected_text : Next → List ℕ
+expected_text next.Part = ascii "the part, as in: part 1 kept 00"
+expected_text next.PartNumber = ascii "the part's number (0 to 267), as in: part 1 kept 00"
+expected_text next.Kept = ascii "kept or the line's end, as in: part 1 kept 00"
+expected_text next.KeptByte = ascii "the kept bits as two hex digits, as in: part 1 kept 00"
+expected_text next.LineEnd = ascii "the line's end"
+expected_text next.Word = ascii "two hex digits or a word (cs sck si hold wp vdd cut power idle held bits item)"
+expected_text (next.Level pin) = ascii "low or high"
+expected_text next.Idle = ascii "a number of pulses (1 to 268435188)"
+expected_text next.Held = ascii "a number of pulses (1 to 268435188)"
+expected_text next.Bits = ascii "bits, each 0 or 1"
+expected_text next.Item = ascii "an item's number (0 to 268435455)"
 
 -- the most characters of these, and of a place
-abbrev pub mostExpected : ℕ
-mostExpected = 80
+abbrev pub most_expected : ℕ
+most_expected = 80
 
-abbrev pub mostPlace : ℕ
-mostPlace = 54
+abbrev pub most_place : ℕ
+most_place = 54
 
 -- "line 3, column 7"
-unfoldable pub placeText : Place → List ℕ
-placeText place = numbered (ascii "line ") place.line ++ numbered (ascii ", column ") place.column
+unfoldable pub place_text : Place → List ℕ
+place_text place = numbered (ascii "line ") place.line ++ numbered (ascii ", column ") place.column
 
-unfoldable pub wrongText : Place → Next → List ℕ
-wrongText place n = placeText place ++ ascii ": expected " ++ expectedText n ++ ascii "\n"
+unfoldable pub wrong_text : Place → Next → List ℕ
+wrong_text place n = place_text place ++ ascii ": expected " ++ expected_text n ++ ascii "\n"
 
-unfoldable pub fullText : Place → List ℕ
-fullText place = placeText place ++ ascii ": expected the text's end, since a trace has at most 32768 bytes\n"
+unfoldable pub full_text : Place → List ℕ
+full_text place = place_text place ++ ascii ": expected the text's end, since a trace has at most 32768 bytes\n"
 
 -- the line; none where the text spells a trace
-unfoldable pub remarkOf : Answer → List ℕ
-remarkOf (answer.Spelt n) = []
-remarkOf (answer.Wrong place n) = wrongText place n
-remarkOf (answer.Full place) = fullText place
-remarkOf answer.Long = ascii "expected a text of at most 262144 characters\n"
+unfoldable pub remark_of : Answer → List ℕ
+remark_of (answer.Spelt n) = []
+remark_of (answer.Wrong place n) = wrong_text place n
+remark_of (answer.Full place) = full_text place
+remark_of answer.Long = ascii "expected a text of at most 262144 characters\n"

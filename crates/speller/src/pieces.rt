@@ -2,7 +2,7 @@
 // buffer alone and answers the place behind the text.
 ghost use Rattle.std.specs.Prelude.{◌+◌, ◌≤◌, length};
 ghost use Rattle.report.specs.Lines.{numbered};
-ghost use Rattle.report.specs.Text.{Puts, lineRoom, mostDigits, decimal};
+ghost use Rattle.report.specs.Text.{Puts, line_room, most_digits, decimal};
 
 use report::lines::LINE;
 use spelling::spell::copy;
@@ -21,8 +21,8 @@ pub(crate) fn put(out: &mut [u8], at: usize, text: &[u8]) -> usize
 
 // A text, and a number behind it.
 pub(crate) fn put_numbered(out: &mut [u8; LINE], at: usize, text: &[u8], n: u64) -> usize
-    requires { at + length text.now + mostDigits ≤ lineRoom }
-    ensures upper_bound { result ≤ at + length text.now + mostDigits }
+    requires { at + length text.now + most_digits ≤ line_room }
+    ensures upper_bound { result ≤ at + length text.now + most_digits }
     ensures puts { Puts out.old at (numbered text.now n) out.new result }
 {
     let next = put(out, at, text);

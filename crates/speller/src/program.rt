@@ -1,6 +1,6 @@
 // The program's run: a text is read and its trace written; or a line on standard error says what is wrong.
 ghost use Rattle.std.specs.Prelude.{◌≤◌, length};
-ghost use Rattle.spelling.specs.Spelt.{mostBytes};
+ghost use Rattle.spelling.specs.Spelt.{most_bytes};
 
 use crate::remarks::remark;
 use libc::{STDERR_FILENO, STDIN_FILENO, STDOUT_FILENO};
@@ -17,7 +17,7 @@ fn write_front(out: &[u8], n: usize)
 
 // The same of an array that has room for any trace.
 fn write_trace(out: &[u8; MOST_BYTES], n: usize)
-    requires { n ≤ mostBytes }
+    requires { n ≤ most_bytes }
 {
     write_front(out, n);
 }

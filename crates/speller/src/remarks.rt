@@ -2,8 +2,8 @@
 // answer is its length.
 ghost use Rattle.std.specs.Prelude.{◌≡◌, ◌++◌, ◌+◌, ◌≤◌, length, drop};
 ghost use Rattle.io.specs.Counts.{IsPrefixLen};
-ghost use Rattle.report.specs.Text.{Puts, lineRoom};
-ghost use Rattle.speller.specs.Remarks.{mostExpected, mostPlace, expectedText, placeText, wrongText, fullText, remarkOf};
+ghost use Rattle.report.specs.Text.{Puts, line_room};
+ghost use Rattle.speller.specs.Remarks.{most_expected, most_place, expected_text, place_text, wrong_text, full_text, remark_of};
 
 use crate::pieces::{put, put_numbered};
 use report::lines::LINE;
@@ -12,9 +12,9 @@ use spelling::spell::{Answer, Place};
 
 // What was expected.
 fn put_expected(out: &mut [u8; LINE], at: usize, expected: Next) -> usize
-    requires { at + mostExpected ≤ lineRoom }
-    ensures upper_bound { result ≤ at + mostExpected }
-    ensures puts { Puts out.old at (expectedText expected) out.new result }
+    requires { at + most_expected ≤ line_room }
+    ensures upper_bound { result ≤ at + most_expected }
+    ensures puts { Puts out.old at (expected_text expected) out.new result }
 {
     match expected {
         Next::Part => put(out, at, b"the part, as in: part 1 kept 00"),
@@ -45,8 +45,8 @@ fn put_expected(out: &mut [u8; LINE], at: usize, expected: Next) -> usize
 
 // Line and column.
 fn put_place(out: &mut [u8; LINE], place: Place) -> usize
-    ensures upper_bound { result ≤ mostPlace }
-    ensures puts { Puts out.old 0 (placeText place) out.new result }
+    ensures upper_bound { result ≤ most_place }
+    ensures puts { Puts out.old 0 (place_text place) out.new result }
 {
     let at = put_numbered(out, 0, b"line ", place.line);
     put_numbered(out, at, b", column ", place.column)
@@ -55,8 +55,8 @@ fn put_place(out: &mut [u8; LINE], place: Place) -> usize
 // A text that is wrong at a place.
 fn put_wrong(out: &mut [u8; LINE], place: Place, expected: Next) -> usize
     ensures prefix_len { IsPrefixLen result out.new }
-    ensures value { result ≡ length (wrongText place expected) }
-    ensures out_after { out.new ≡ wrongText place expected ++ drop result out.old }
+    ensures value { result ≡ length (wrong_text place expected) }
+    ensures out_after { out.new ≡ wrong_text place expected ++ drop result out.old }
 {
     let at = put_place(out, place);
     let at = put(out, at, b": expected ");
@@ -67,8 +67,8 @@ fn put_wrong(out: &mut [u8; LINE], place: Place, expected: Next) -> usize
 // A text whose trace is too long from a place on.
 fn put_full(out: &mut [u8; LINE], place: Place) -> usize
     ensures prefix_len { IsPrefixLen result out.new }
-    ensures value { result ≡ length (fullText place) }
-    ensures out_after { out.new ≡ fullText place ++ drop result out.old }
+    ensures value { result ≡ length (full_text place) }
+    ensures out_after { out.new ≡ full_text place ++ drop result out.old }
 {
     let at = put_place(out, place);
     put(
@@ -81,8 +81,8 @@ fn put_full(out: &mut [u8; LINE], place: Place) -> usize
 // The line; none where the text spells a trace.
 pub fn remark(out: &mut [u8; LINE], answer: Answer) -> usize
     ensures prefix_len { IsPrefixLen result out.new }
-    ensures value { result ≡ length (remarkOf answer) }
-    ensures out_after { out.new ≡ remarkOf answer ++ drop result out.old }
+    ensures value { result ≡ length (remark_of answer) }
+    ensures out_after { out.new ≡ remark_of answer ++ drop result out.old }
 {
     match answer {
         Answer::Spelt { length: _ } => 0,

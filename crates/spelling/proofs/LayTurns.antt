@@ -10,21 +10,21 @@ use borrow.Author.Tests.{le-ltb, lt-ltb, le-leb, lt-leb}
 use lib.ListN.{length, get_or, set, drop, length-append, drop_of_length-le}
 use lib.Seq.{sets, sets-eq, length-sets, drop-cons}
 use Rattle.trace.specs.Figures.{groups, largest}
-use Rattle.trace.specs.Answers.{Told, placed, writtenTold, number_of}
+use Rattle.trace.specs.Answers.{Told, placed, written_told, number_of}
 use Rattle.trace.specs.ByteLaws.{below}
 use Rattle.trace.specs.Form.{form}
 use Rattle.trace.specs.Items.{pulse}
-use Rattle.trace.specs.Number.{writing, sliceWritten}
+use Rattle.trace.specs.Number.{writing, slice_written}
 use Rattle.trace.specs.Promises.{WritePromise}
-use Rattle.trace.specs.SpellingLaws.{some_bytes, form-spells}
-use Rattle.trace.specs.WriteLaws.{at-placing}
+use Rattle.trace.specs.SpellingLaws.{some_bytes, form_spells}
+use Rattle.trace.specs.WriteLaws.{at_placing}
 use Rattle.trace.specs.declared.answer.Refusal.{Refusal}
 use Rattle.trace.specs.declared.answer.Refusal.TheVariants.{Malformed, TooLarge, Beyond, NoRoom}
 use Rattle.trace.specs.declared.answer.Written.{Written}
 use Rattle.trace.specs.declared.answer.Written.TheVariants.{Placed, Refused}
-use Rattle.spelling.specs.Items.{forms, bitItems}
-use Rattle.sayings.specs.Characters.{digitOf}
-use Rattle.spelling.specs.FormLaws.{forms-append}
+use Rattle.spelling.specs.Items.{forms, bit_items}
+use Rattle.sayings.specs.Characters.{digit_of}
+use Rattle.spelling.specs.FormLaws.{forms_append}
 use Rattle.spelling.specs.Lays.{Small, Lays, laid}
 use Rattle.spelling.specs.declared.put.Laid.{Laid}
 use Rattle.spelling.specs.declared.put.Laid.TheVariants.{Behind, Full}
@@ -38,14 +38,14 @@ numbered TooLarge z = omega arith
 numbered Beyond z = omega arith
 numbered NoRoom z = omega arith
 
-pub some-form : (n : ℕ) → n ≤ largest → 0 < length (form n)
-some-form n h = some_bytes (form-spells (groups - 1) n (omega arith))
+pub some_form : (n : ℕ) → n ≤ largest → 0 < length (form n)
+some_form n h = some_bytes (form_spells (groups - 1) n (omega arith))
 
 module _ (s : List ℕ) (at n : ℕ) (h : n ≤ largest) where
-  room-written : length (form n) ≤ length s - at → writing s at n ≡ placed (at + length (form n))
+  room_written : length (form n) ≤ length s - at → writing s at n ≡ placed (at + length (form n))
   unfolding writing
-  room-written r =
-      let some = some-form n h in
+  room_written r =
+      let some = some_form n h in
       simp (le-ltb largest n h, le-ltb (length s) at (omega arith), le-ltb (length s - at) (length (form n)) r)
 
   no_room : length s - at < length (form n) → (writing s at n).refusal ≡ 0 → ⊥
@@ -55,28 +55,28 @@ module _ (s : List ℕ) (at n : ℕ) (h : n ≤ largest) where
       (λ g. let z = simp (le-ltb largest n h, le-ltb (length s) at g, lt-ltb (length s - at) (length (form n)) r) at e in omega arith)
       (below (length s) at)
 
-  slice_written : length (form n) ≤ length s - at → sliceWritten s at n ≡ sets s at (form n)
-  slice_written r =
-      let some = some-form n h in
-      sym (sets-eq (form n) s at (omega arith) ∙ at-placing s at n (at + length (form n)) (sym (room-written r)))
+  slice_written_lem : length (form n) ≤ length s - at → slice_written s at n ≡ sets s at (form n)
+  slice_written_lem r =
+      let some = some_form n h in
+      sym (sets-eq (form n) s at (omega arith) ∙ at_placing s at n (at + length (form n)) (sym (room_written r)))
 
   module _ (x : List ℕ) (a : Written) (p : WritePromise s at n a x) where
-    there-written : length (form n) ≤ length s - at → x ≡ sets s at (form n)
-    there-written r = p.1 ∙ slice_written r
+    there_written : length (form n) ≤ length s - at → x ≡ sets s at (form n)
+    there_written r = p.1 ∙ slice_written_lem r
 
-    pub placed-lays : (next : ℕ) → a ≡ Placed next → Lays s at (form n) x (Behind next)
-    placed-lays next e =
-        let told : placed next ≡ writing s at n = sym (ap writtenTold e) ∙ p.0 in
+    pub placed_lays : (next : ℕ) → a ≡ Placed next → Lays s at (form n) x (Behind next)
+    placed_lays next e =
+        let told : placed next ≡ writing s at n = sym (ap written_told e) ∙ p.0 in
         ⊎_elim (λ r. absurd (no_room r (sym (ap (λ (t : Told). t.refusal) told))))
         (λ r.
-        let is : next ≡ at + length (form n) = ap (λ (t : Told). t.place) (told ∙ room-written r) in
-        record { answer = ap Behind is ∙ sym (rw (le-leb (length (form n)) (length s - at) r)); there = there-written })
+        let is : next ≡ at + length (form n) = ap (λ (t : Told). t.place) (told ∙ room_written r) in
+        record { answer = ap Behind is ∙ sym (rw (le-leb (length (form n)) (length s - at) r)); there = there_written })
         (below (length s - at) (length (form n)))
 
-    pub refused-lays : (why : Refusal) (place : ℕ) → a ≡ Refused why place → Lays s at (form n) x Full
-    refused-lays why place e =
-        ⊎_elim (λ r. record { answer = sym (rw (lt-leb (length (form n)) (length s - at) r)); there = there-written })
-        (λ r. absurd (numbered why (ap (λ (t : Told). t.refusal) (sym (ap writtenTold e) ∙ p.0 ∙ room-written r))))
+    pub refused_lays : (why : Refusal) (place : ℕ) → a ≡ Refused why place → Lays s at (form n) x Full
+    refused_lays why place e =
+        ⊎_elim (λ r. record { answer = sym (rw (lt-leb (length (form n)) (length s - at) r)); there = there_written })
+        (λ r. absurd (numbered why (ap (λ (t : Told). t.refusal) (sym (ap written_told e) ∙ p.0 ∙ room_written r))))
         (below (length s - at) (length (form n)))
 
 -- ---- bytes in pieces
@@ -95,11 +95,11 @@ full size at n e =
     (below (size - at) n)
 
 -- the stores of two pieces, one behind the other, are those of the whole
-pub sets-append : (l : List ℕ) (at : ℕ) (p q : List ℕ) → sets l at (p ++ q) ≡ sets (sets l at p) (at + length p) q
-sets-append l at [] q = ap (λ (n : ℕ). sets l n q) (sym (add-zero at))
-sets-append l at (x ∷ p) q =
+pub sets_append : (l : List ℕ) (at : ℕ) (p q : List ℕ) → sets l at (p ++ q) ≡ sets (sets l at p) (at + length p) q
+sets_append l at [] q = ap (λ (n : ℕ). sets l n q) (sym (add-zero at))
+sets_append l at (x ∷ p) q =
     let place : suc at + length p ≡ at + suc (length p) = omega arith in
-    sets-append (set l at x) (suc at) p q ∙ ap (λ (n : ℕ). sets (sets (set l at x) (suc at) p) n q) place
+    sets_append (set l at x) (suc at) p q ∙ ap (λ (n : ℕ). sets (sets (set l at x) (suc at) p) n q) place
 
 -- of all the bytes that are to stand from `first` on in s, the rest is still to be put, at a place of t
 pub record Laying (s : List ℕ) (first : ℕ) (all t : List ℕ) (at : ℕ) (rest : List ℕ) : Type 0 where
@@ -120,7 +120,7 @@ module _ {s all t x piece left : List ℕ} {first at : ℕ} (rest : List ℕ) (l
       let is : x ≡ sets t at piece = p.there q.0 in
       let sum = ap length e ∙ length-append piece rest in
       record {
-        bytes = rw (is, q.1) (sym (sets-append t at piece rest) ∙ ap (sets t at) (sym e) ∙ l.bytes);
+        bytes = rw (is, q.1) (sym (sets_append t at piece rest) ∙ ap (sets t at) (sym e) ∙ l.bytes);
         size = ap length is ∙ length-sets t at piece ∙ l.size;
         place = omega (arith, l.place);
         room = omega (arith, l.room);
@@ -143,44 +143,44 @@ done {s} {all} {t} {first} {at} l =
 -- ---- items
 
 module _ (items : List ℕ) (i : ℕ) (h : i < length items) where
-  forms-drop : forms (drop i items) ≡ form (get_or items i 0) ++ forms (drop (i + 1) items)
-  forms-drop = ap forms (drop-cons items i 0 h) ∙ rw (add-one i)
+  forms_drop : forms (drop i items) ≡ form (get_or items i 0) ++ forms (drop (i + 1) items)
+  forms_drop = ap forms (drop-cons items i 0 h) ∙ rw (add-one i)
 
-  pub small-drop : Small (drop i items) → (get_or items i 0 ≤ largest) × Small (drop (i + 1) items)
-  small-drop f = rw (add-one i) (rw (drop-cons items i 0 h) at f)
+  pub small_drop : Small (drop i items) → (get_or items i 0 ≤ largest) × Small (drop (i + 1) items)
+  small_drop f = rw (add-one i) (rw (drop-cons items i 0 h) at f)
 
   module _ {s all t x : List ℕ} {first at : ℕ} (l : Laying s first all t at (forms (drop i items))) where
-    pub item-more : {next : ℕ} {r : Laid} → Lays t at (form (get_or items i 0)) x r → r ≡ Behind next → Laying s first all x next (forms (drop (i + 1) items))
-    item-more p is = more (forms (drop (i + 1) items)) l forms-drop p is
+    pub item_more : {next : ℕ} {r : Laid} → Lays t at (form (get_or items i 0)) x r → r ≡ Behind next → Laying s first all x next (forms (drop (i + 1) items))
+    item_more p is = more (forms (drop (i + 1) items)) l forms_drop p is
 
-    pub item-stop : {r : Laid} → Lays t at (form (get_or items i 0)) x r → r ≡ Full → Lays s first all x Full
-    item-stop p is = stop (forms (drop (i + 1) items)) l forms-drop p is
+    pub item_stop : {r : Laid} → Lays t at (form (get_or items i 0)) x r → r ≡ Full → Lays s first all x Full
+    item_stop p is = stop (forms (drop (i + 1) items)) l forms_drop p is
 
-pub items-done : {s all t : List ℕ} {first at : ℕ} (items : List ℕ) (i : ℕ) → length items ≤ i → Laying s first all t at (forms (drop i items)) → Lays s first all t (Behind at)
-items-done items i h l = done (rw (drop_of_length-le items h) at l)
+pub items_done : {s all t : List ℕ} {first at : ℕ} (items : List ℕ) (i : ℕ) → length items ≤ i → Laying s first all t at (forms (drop i items)) → Lays s first all t (Behind at)
+items_done items i h l = done (rw (drop_of_length-le items h) at l)
 
 -- ---- bits
 
 module _ (word : List ℕ) (i : ℕ) (h : i < length word) where
-  bits-drop : (g d : ℕ) → g ≡ digitOf (get_or word i 0) → d ≡ g → forms (bitItems (drop i word)) ≡ forms ((4 + d) ∷ 3 ∷ 2 ∷ []) ++ forms (bitItems (drop (i + 1) word))
-  bits-drop g d p q =
-      ap (λ (l : List ℕ). forms (bitItems l)) (drop-cons word i 0 h)
-      ∙ forms-append (pulse (digitOf (get_or word i 0))) (bitItems (drop (suc i) word))
+  bits_drop : (g d : ℕ) → g ≡ digit_of (get_or word i 0) → d ≡ g → forms (bit_items (drop i word)) ≡ forms ((4 + d) ∷ 3 ∷ 2 ∷ []) ++ forms (bit_items (drop (i + 1) word))
+  bits_drop g d p q =
+      ap (λ (l : List ℕ). forms (bit_items l)) (drop-cons word i 0 h)
+      ∙ forms_append (pulse (digit_of (get_or word i 0))) (bit_items (drop (suc i) word))
       ∙ rw (add-one i, ← p, ← q)
 
-  module _ {s all t x : List ℕ} {first at : ℕ} (l : Laying s first all t at (forms (bitItems (drop i word)))) where
-    pub bit-more :
-        {next : ℕ} {r : Laid} (g d : ℕ) → g ≡ digitOf (get_or word i 0) → d ≡ g → Lays t at (forms ((4 + d) ∷ 3 ∷ 2 ∷ [])) x r → r ≡ Behind next
-        → Laying s first all x next (forms (bitItems (drop (i + 1) word)))
-    bit-more g d e f p is = more (forms (bitItems (drop (i + 1) word))) l (bits-drop g d e f) p is
+  module _ {s all t x : List ℕ} {first at : ℕ} (l : Laying s first all t at (forms (bit_items (drop i word)))) where
+    pub bit_more :
+        {next : ℕ} {r : Laid} (g d : ℕ) → g ≡ digit_of (get_or word i 0) → d ≡ g → Lays t at (forms ((4 + d) ∷ 3 ∷ 2 ∷ [])) x r → r ≡ Behind next
+        → Laying s first all x next (forms (bit_items (drop (i + 1) word)))
+    bit_more g d e f p is = more (forms (bit_items (drop (i + 1) word))) l (bits_drop g d e f) p is
 
-    pub bit-stop :
-        {r : Laid} (g d : ℕ) → g ≡ digitOf (get_or word i 0) → d ≡ g → Lays t at (forms ((4 + d) ∷ 3 ∷ 2 ∷ [])) x r → r ≡ Full
+    pub bit_stop :
+        {r : Laid} (g d : ℕ) → g ≡ digit_of (get_or word i 0) → d ≡ g → Lays t at (forms ((4 + d) ∷ 3 ∷ 2 ∷ [])) x r → r ≡ Full
         → Lays s first all x Full
-    bit-stop g d e f p is = stop (forms (bitItems (drop (i + 1) word))) l (bits-drop g d e f) p is
+    bit_stop g d e f p is = stop (forms (bit_items (drop (i + 1) word))) l (bits_drop g d e f) p is
 
-pub bits-done : {s all t : List ℕ} {first at : ℕ} (word : List ℕ) (i : ℕ) → length word ≤ i → Laying s first all t at (forms (bitItems (drop i word))) → Lays s first all t (Behind at)
-bits-done word i h l = done (rw (drop_of_length-le word h) at l)
+pub bits_done : {s all t : List ℕ} {first at : ℕ} (word : List ℕ) (i : ℕ) → length word ≤ i → Laying s first all t at (forms (bit_items (drop i word))) → Lays s first all t (Behind at)
+bits_done word i h l = done (rw (drop_of_length-le word h) at l)
 
 -- ---- nothing
 

@@ -13,8 +13,8 @@ use lib.Seq.{set_out, sets, sets-eq, length-sets, drop-cons, take_all, take-appe
 use Rattle.sayings.specs.Characters.{char}
 use Rattle.spelling.specs.Items.{forms}
 use Rattle.spelling.specs.Meaning.{Meaning, names, wrong, full, long, longest, meaning}
-use Rattle.spelling.specs.MeaningLaws.{Names, named-room}
-use Rattle.spelling.specs.Spelt.{mostBytes, spelt, nextPlace, placeFrom, placeAt, answered, lent, Spells}
+use Rattle.spelling.specs.MeaningLaws.{Names, named_room}
+use Rattle.spelling.specs.Spelt.{most_bytes, spelt, next_place, place_from, place_at, answered, lent, Spells}
 use Rattle.spelling.specs.Told.{told, passed, wholly}
 use Rattle.spelling.specs.Told as told
 use Rattle.sayings.specs.declared.says.Next.{Next}
@@ -27,49 +27,49 @@ use Rattle.spelling.specs.declared.turns.Turn.TheVariants as turn
 -- ---- lines and columns
 
 module _ (front : List ℕ) (place : Place) (i : ℕ) (h : i < length front) where
-  pub place-turn : {all next : Place} → placeFrom place.line place.column (drop i front) ≡ all → next ≡ nextPlace place (get_or front i 0)
-      → placeFrom next.line next.column (drop (i + 1) front) ≡ all
-  place-turn inv e = rw e (sym (rw (drop-cons front i 0 h, ← add-one i)) ∙ inv)
+  pub place_turn : {all next : Place} → place_from place.line place.column (drop i front) ≡ all → next ≡ next_place place (get_or front i 0)
+      → place_from next.line next.column (drop (i + 1) front) ≡ all
+  place_turn inv e = rw e (sym (rw (drop-cons front i 0 h, ← add-one i)) ∙ inv)
 
-  pub place-bound : {next : Place} → next ≡ nextPlace place (get_or front i 0) → (place.line ≤ i + 1) × (place.column ≤ i + 1)
+  pub place_bound : {next : Place} → next ≡ next_place place (get_or front i 0) → (place.line ≤ i + 1) × (place.column ≤ i + 1)
       → (next.line ≤ i + 1 + 1) × (next.column ≤ i + 1 + 1)
-  place-bound e b = rw e (go (eqb (get_or front i 0) (char "\n")))
+  place_bound e b = rw e (go (eqb (get_or front i 0) (char "\n")))
     where
       go : (t : Bool) → (cond t (place.line + 1) place.line ≤ i + 1 + 1) × (cond t 1 (place.column + 1) ≤ i + 1 + 1)
       go true = (omega arith, omega arith)
       go false = (omega arith, omega arith)
 
-pub place_end : (front : List ℕ) (place : Place) (i : ℕ) {all : Place} → length front ≤ i → placeFrom place.line place.column (drop i front) ≡ all → place ≡ all
+pub place_end : (front : List ℕ) (place : Place) (i : ℕ) {all : Place} → length front ≤ i → place_from place.line place.column (drop i front) ≡ all → place ≡ all
 place_end front place i h inv = rw (drop_of_length-le front h) at inv
 
-pub place-whole : (text : List ℕ) (i : ℕ) → length text ≤ i → placeFrom 1 1 text ≡ placeAt text i
-unfolding placeAt
-place-whole text i h = rw (take_all i text h)
+pub place_whole : (text : List ℕ) (i : ℕ) → length text ≤ i → place_from 1 1 text ≡ place_at text i
+unfolding place_at
+place_whole text i h = rw (take_all i text h)
 
 -- ---- bytes copied
 
 pub copy_start : (bytes out : List ℕ) (at : ℕ) → sets out (at + 0) (drop 0 bytes) ≡ sets out at bytes
 copy_start bytes out at = ap (λ (n : ℕ). sets out n bytes) (add-zero at)
 
-pub copy-turn :
+pub copy_turn :
     (bytes out : List ℕ) (at i : ℕ) {all : List ℕ} → i < length bytes → sets out (at + i) (drop i bytes) ≡ all
     → sets (set out (at + i) (get_or bytes i 0)) (at + (i + 1)) (drop (i + 1) bytes) ≡ all
-copy-turn bytes out at i h inv =
+copy_turn bytes out at i h inv =
     let next : at + (i + 1) ≡ suc (at + i) = omega arith in
     rw (next, add-one i) (sym (rw (drop-cons bytes i 0 h)) ∙ inv)
 
 -- a store behind the end changes nothing
-copy-beyond : (bytes out : List ℕ) (at : ℕ) → length out ≤ at → sets out at bytes ≡ out
-copy-beyond [] out at h = refl
-copy-beyond (b ∷ bytes) out at h =
+copy_beyond : (bytes out : List ℕ) (at : ℕ) → length out ≤ at → sets out at bytes ≡ out
+copy_beyond [] out at h = refl
+copy_beyond (b ∷ bytes) out at h =
     let none : set out at b ≡ out = set_out out at b h in
-    ap (λ (l : List ℕ). sets l (suc at) bytes) none ∙ copy-beyond bytes out (suc at) (omega arith)
+    ap (λ (l : List ℕ). sets l (suc at) bytes) none ∙ copy_beyond bytes out (suc at) (omega arith)
 
-pub copy-none : (bytes out : List ℕ) (at : ℕ) → length out ≤ at → out ≡ sets out at bytes
-copy-none bytes out at h = sym (copy-beyond bytes out at h)
+pub copy_none : (bytes out : List ℕ) (at : ℕ) → length out ≤ at → out ≡ sets out at bytes
+copy_none bytes out at h = sym (copy_beyond bytes out at h)
 
-pub copy-full : (bytes out : List ℕ) (at i : ℕ) {all : List ℕ} → length out ≤ at + i → sets out (at + i) (drop i bytes) ≡ all → out ≡ all
-copy-full bytes out at i h inv = sym (copy-beyond (drop i bytes) out (at + i) h) ∙ inv
+pub copy_full : (bytes out : List ℕ) (at i : ℕ) {all : List ℕ} → length out ≤ at + i → sets out (at + i) (drop i bytes) ≡ all → out ≡ all
+copy_full bytes out at i h inv = sym (copy_beyond (drop i bytes) out (at + i) h) ∙ inv
 
 -- bytes from the first place on are the front of a slice
 front_of : (l bytes : List ℕ) → length bytes ≤ length l → sets l 0 bytes ≡ bytes ++ drop (length bytes) l
@@ -77,15 +77,15 @@ front_of l bytes h =
     let sum : 0 + length bytes ≡ length bytes = omega arith in
     sets-eq bytes l 0 (omega arith) ∙ ap (λ (n : ℕ). bytes ++ drop n l) sum
 
-pub copy-end : (bytes out : List ℕ) (at i : ℕ) {all : List ℕ} → length bytes ≤ i → sets out (at + i) (drop i bytes) ≡ all → out ≡ all
-copy-end bytes out at i h inv = rw (drop_of_length-le bytes h) at inv
+pub copy_end : (bytes out : List ℕ) (at i : ℕ) {all : List ℕ} → length bytes ≤ i → sets out (at + i) (drop i bytes) ≡ all → out ≡ all
+copy_end bytes out at i h inv = rw (drop_of_length-le bytes h) at inv
 
 -- ---- the whole
 
 -- a text that is not too long means what its words do
-not-long : (text : List ℕ) → length text ≤ longest → spelt text ≡ meaning mostBytes text
+not_long : (text : List ℕ) → length text ≤ longest → spelt text ≡ meaning most_bytes text
 unfolding spelt
-not-long text h = rw (le-ltb longest (length text) h)
+not_long text h = rw (le-ltb longest (length text) h)
 
 pub too_long : (text out : List ℕ) → longest < length text → Spells text out out answer.Long
 unfolding spelt
@@ -94,15 +94,15 @@ too_long text out h =
     record { answer = rw is; slice = rw is }
 
 -- what is wrong is what the meaning says
-is-unspelt : (trace : List ℕ) (m u : Meaning) → told.unspelt u ≡ told 0 trace m → m ≡ u
-is-unspelt trace (names items) u e = absurd (let z : ◌≡◌ {A = ℕ} 0 1 = cc in omega arith)
-is-unspelt trace (wrong i n) u e = cc
-is-unspelt trace (full i) u e = cc
-is-unspelt trace long u e = cc
+is_unspelt : (trace : List ℕ) (m u : Meaning) → told.unspelt u ≡ told 0 trace m → m ≡ u
+is_unspelt trace (names items) u e = absurd (let z : ◌≡◌ {A = ℕ} 0 1 = cc in omega arith)
+is_unspelt trace (wrong i n) u e = cc
+is_unspelt trace (full i) u e = cc
+is_unspelt trace long u e = cc
 
 -- what is spelt is the front of the slice
-module _ (text trace x out : List ℕ) (n : ℕ) (size : length trace ≡ mostBytes) (wide : length out ≡ mostBytes) where
-  fits : (m : Meaning) → Names (λ items. length (forms items) ≤ mostBytes) m → told.spelt n x ≡ told 0 trace m → n ≤ length x
+module _ (text trace x out : List ℕ) (n : ℕ) (size : length trace ≡ most_bytes) (wide : length out ≡ most_bytes) where
+  fits : (m : Meaning) → Names (λ items. length (forms items) ≤ most_bytes) m → told.spelt n x ≡ told 0 trace m → n ≤ length x
   fits (names items) h e =
       let is-n : n ≡ 0 + length (forms items) = cc in
       let is_x : x ≡ sets trace 0 (forms items) = cc in
@@ -111,7 +111,7 @@ module _ (text trace x out : List ℕ) (n : ℕ) (size : length trace ≡ mostBy
   fits (full i) h e = absurd (let z : ◌≡◌ {A = ℕ} 0 1 = cc in omega arith)
   fits long h e = absurd (let z : ◌≡◌ {A = ℕ} 0 1 = cc in omega arith)
 
-  front : (m : Meaning) → Names (λ items. length (forms items) ≤ mostBytes) m → told.spelt n x ≡ told 0 trace m → (answer.Spelt n ≡ answered text m) × (sets out 0 (take n x) ≡ lent out m)
+  front : (m : Meaning) → Names (λ items. length (forms items) ≤ most_bytes) m → told.spelt n x ≡ told 0 trace m → (answer.Spelt n ≡ answered text m) × (sets out 0 (take n x) ≡ lent out m)
   front (names items) h e =
       let sum : n ≡ 0 + length (forms items) = cc in
       let is-n : n ≡ length (forms items) = omega arith in
@@ -124,27 +124,27 @@ module _ (text trace x out : List ℕ) (n : ℕ) (size : length trace ≡ mostBy
   front (full i) h e = absurd (let z : ◌≡◌ {A = ℕ} 0 1 = cc in omega arith)
   front long h e = absurd (let z : ◌≡◌ {A = ℕ} 0 1 = cc in omega arith)
 
-module _ (text trace x : List ℕ) (short : length text ≤ longest) (size : length trace ≡ mostBytes) (t : Turn) (p : passed t x ≡ wholly text trace) where
+module _ (text trace x : List ℕ) (short : length text ≤ longest) (size : length trace ≡ most_bytes) (t : Turn) (p : passed t x ≡ wholly text trace) where
   comes : passed t x ≡ told 0 trace (spelt text)
-  comes = p ∙ ap (λ (n : ℕ). told 0 trace (meaning n text)) size ∙ ap (told 0 trace) (sym (not-long text short))
+  comes = p ∙ ap (λ (n : ℕ). told 0 trace (meaning n text)) size ∙ ap (told 0 trace) (sym (not_long text short))
 
-  room : Names (λ items. length (forms items) ≤ mostBytes) (spelt text)
-  room = rw (not-long text short) (named-room mostBytes text)
+  room : Names (λ items. length (forms items) ≤ most_bytes) (spelt text)
+  room = rw (not_long text short) (named_room most_bytes text)
 
-  pub spelt-fits : (here : Here) → t ≡ turn.On here → here.at ≤ length x
-  spelt-fits here e = fits text trace x trace here.at size size (spelt text) room (rw e at comes)
+  pub spelt_fits : (here : Here) → t ≡ turn.On here → here.at ≤ length x
+  spelt_fits here e = fits text trace x trace here.at size size (spelt text) room (rw e at comes)
 
-  pub spelt-whole : (here : Here) (out after : List ℕ) → t ≡ turn.On here → length out ≡ mostBytes → after ≡ sets out 0 (take here.at x) → Spells text out after (answer.Spelt here.at)
-  spelt-whole here out after e wide q =
+  pub spelt_whole : (here : Here) (out after : List ℕ) → t ≡ turn.On here → length out ≡ most_bytes → after ≡ sets out 0 (take here.at x) → Spells text out after (answer.Spelt here.at)
+  spelt_whole here out after e wide q =
       let f = front text trace x out here.at size wide (spelt text) room (rw e at comes) in
       record { answer = f.0; slice = q ∙ f.1 }
 
-  pub wrong-whole : (out : List ℕ) (i : ℕ) (n : Next) (place : Place) → t ≡ turn.Wrong i n → place ≡ placeAt text i → Spells text out out (answer.Wrong place n)
-  wrong-whole out i n place e q =
-      let is = is-unspelt trace (spelt text) (wrong i n) (rw e at comes) in
+  pub wrong_whole : (out : List ℕ) (i : ℕ) (n : Next) (place : Place) → t ≡ turn.Wrong i n → place ≡ place_at text i → Spells text out out (answer.Wrong place n)
+  wrong_whole out i n place e q =
+      let is = is_unspelt trace (spelt text) (wrong i n) (rw e at comes) in
       record { answer = rw (is, q); slice = rw is }
 
-  pub full-whole : (out : List ℕ) (i : ℕ) (place : Place) → t ≡ turn.Full i → place ≡ placeAt text i → Spells text out out (answer.Full place)
-  full-whole out i place e q =
-      let is = is-unspelt trace (spelt text) (full i) (rw e at comes) in
+  pub full_whole : (out : List ℕ) (i : ℕ) (place : Place) → t ≡ turn.Full i → place ≡ place_at text i → Spells text out out (answer.Full place)
+  full_whole out i place e q =
+      let is = is_unspelt trace (spelt text) (full i) (rw e at comes) in
       record { answer = rw (is, q); slice = rw is }

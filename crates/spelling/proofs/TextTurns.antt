@@ -11,7 +11,7 @@ use borrow.Author.Tests.{lt-ltb, le-ltb}
 use lib.ListN.{length, drop, get_or, length-append, drop_of_length-le, get_or-append}
 use lib.Seq.{drop-cons, get_or_at}
 use Rattle.sayings.specs.Characters.{ascii, kind_of}
-use Rattle.spelling.specs.Marks.{Mark, char_at, wordEnded, lineEnded, modeAfter, wordMarks, lineMarks, marks, ModeFits, EndedFits}
+use Rattle.spelling.specs.Marks.{Mark, char_at, word_ended, line_ended, mode_after, word_marks, line_marks, marks, ModeFits, EndedFits}
 use Rattle.spelling.specs.Meaning.{start, ready, meaning}
 use Rattle.spelling.specs.Told.{Told, spelt, rest, followed, Follows, passed, finished, wholly}
 use Rattle.sayings.specs.declared.chars.Kind.{Kind}
@@ -26,23 +26,23 @@ use Rattle.spelling.specs.declared.turns.Turn.TheVariants as turn
 
 -- ---- a word begins before the place where it is read
 
-pub ended-fits : (mode : Mode) (kind : Kind) (i : ℕ) → ModeFits mode i → EndedFits (wordEnded mode kind) i
-ended-fits Between kind i h = tt
-ended-fits Comment kind i h = tt
-ended-fits (Inside from) NewLine i h = h
-ended-fits (Inside from) Hash i h = h
-ended-fits (Inside from) Blank i h = h
-ended-fits (Inside from) Letter i h = tt
+pub ended_fits : (mode : Mode) (kind : Kind) (i : ℕ) → ModeFits mode i → EndedFits (word_ended mode kind) i
+ended_fits Between kind i h = tt
+ended_fits Comment kind i h = tt
+ended_fits (Inside from) NewLine i h = h
+ended_fits (Inside from) Hash i h = h
+ended_fits (Inside from) Blank i h = h
+ended_fits (Inside from) Letter i h = tt
 
-pub mode-fits : (mode : Mode) (kind : Kind) (i : ℕ) → ModeFits mode i → ModeFits (modeAfter mode kind i) (i + 1)
-mode-fits mode NewLine i h = tt
-mode-fits mode Hash i h = tt
-mode-fits Between Blank i h = tt
-mode-fits Comment Blank i h = tt
-mode-fits (Inside from) Blank i h = tt
-mode-fits Between Letter i h = omega arith
-mode-fits Comment Letter i h = tt
-mode-fits (Inside from) Letter i h = omega arith
+pub mode_fits : (mode : Mode) (kind : Kind) (i : ℕ) → ModeFits mode i → ModeFits (mode_after mode kind i) (i + 1)
+mode_fits mode NewLine i h = tt
+mode_fits mode Hash i h = tt
+mode_fits Between Blank i h = tt
+mode_fits Comment Blank i h = tt
+mode_fits (Inside from) Blank i h = tt
+mode_fits Between Letter i h = omega arith
+mode_fits Comment Letter i h = tt
+mode_fits (Inside from) Letter i h = omega arith
 
 -- ---- one character more
 
@@ -53,45 +53,45 @@ ended text = text ++ ascii "\n"
 abbrev pub unread : List ℕ → Mode → ℕ → List Mark
 unread text mode i = marks mode i (drop i (ended text))
 
-next-char : (text : List ℕ) (i : ℕ) → i ≤ length text → get_or (ended text) i 0 ≡ char_at text i
+next_char : (text : List ℕ) (i : ℕ) → i ≤ length text → get_or (ended text) i 0 ≡ char_at text i
 unfolding char_at
-next-char text i h =
+next_char text i h =
     ⊎_elim (λ e. get_or_at text 10 [] 0 i (sym e) ∙ sym (rw (le-ltb i (length text) (omega arith))))
     (λ l. get_or-append text (ascii "\n") 0 i l ∙ sym (rw (lt-ltb i (length text) l)))
     (eq-or-lt_of_le h)
 
-drop-char : (text : List ℕ) (i : ℕ) → i ≤ length text → drop i (ended text) ≡ char_at text i ∷ drop (i + 1) (ended text)
-drop-char text i h =
+drop_char : (text : List ℕ) (i : ℕ) → i ≤ length text → drop i (ended text) ≡ char_at text i ∷ drop (i + 1) (ended text)
+drop_char text i h =
     drop-cons (ended text) i 0 (omega (arith, length-append text (ascii "\n")))
-    ∙ ap₂ (λ (c : ℕ) (n : ℕ). c ∷ drop n (ended text)) (next-char text i h) (sym (add-one i))
+    ∙ ap₂ (λ (c : ℕ) (n : ℕ). c ∷ drop n (ended text)) (next_char text i h) (sym (add-one i))
 
 module _ (text out : List ℕ) (mode : Mode) (here : Here) (i : ℕ) {all : Told} (inv : rest text out here (unread text mode i) ≡ all) where
   module _ (h : i ≤ length text) (c : ℕ) (kind : Kind) (word : Ended) (line : Bool) (is-char : c ≡ char_at text i) (is-kind : kind ≡ kind_of c)
-      (is_IsWord : word ≡ wordEnded mode kind) (is-line : line ≡ lineEnded mode kind) where
-    char-marks : unread text mode i ≡ wordMarks word i ++ lineMarks line i ++ unread text (modeAfter mode kind i) (i + 1)
-    char-marks =
-        ap (marks mode i) (drop-char text i h)
+      (is_IsWord : word ≡ word_ended mode kind) (is-line : line ≡ line_ended mode kind) where
+    char_marks : unread text mode i ≡ word_marks word i ++ line_marks line i ++ unread text (mode_after mode kind i) (i + 1)
+    char_marks =
+        ap (marks mode i) (drop_char text i h)
         ∙ rw (← is-char, ← is-kind, ← is_IsWord, ← is-line, add-one i)
 
-    module _ (x : List ℕ) (t : Turn) (f : Follows text out here (wordMarks word i ++ lineMarks line i) x t) where
-      comes : (s : Turn) → t ≡ s → followed text s x (unread text (modeAfter mode kind i) (i + 1)) ≡ all
+    module _ (x : List ℕ) (t : Turn) (f : Follows text out here (word_marks word i ++ line_marks line i) x t) where
+      comes : (s : Turn) → t ≡ s → followed text s x (unread text (mode_after mode kind i) (i + 1)) ≡ all
       comes s e =
-          ap (λ (r : Turn). followed text r x (unread text (modeAfter mode kind i) (i + 1))) (sym e)
-          ∙ sym (f.comes (unread text (modeAfter mode kind i) (i + 1)))
-          ∙ ap (rest text out here) (sym char-marks)
+          ap (λ (r : Turn). followed text r x (unread text (mode_after mode kind i) (i + 1))) (sym e)
+          ∙ sym (f.comes (unread text (mode_after mode kind i) (i + 1)))
+          ∙ ap (rest text out here) (sym char_marks)
           ∙ inv
 
-      pub char-on : (k : Here) (m : Mode) → t ≡ turn.On k → m ≡ modeAfter mode kind i → rest text x k (unread text m (i + 1)) ≡ all
-      char-on k m e q = rw q (comes (turn.On k) e)
+      pub char_on : (k : Here) (m : Mode) → t ≡ turn.On k → m ≡ mode_after mode kind i → rest text x k (unread text m (i + 1)) ≡ all
+      char_on k m e q = rw q (comes (turn.On k) e)
 
-      pub char-wrong : (place : ℕ) (n : Next) → t ≡ turn.Wrong place n → passed (turn.Wrong place n) x ≡ all
-      char-wrong place n e = comes (turn.Wrong place n) e
+      pub char_wrong : (place : ℕ) (n : Next) → t ≡ turn.Wrong place n → passed (turn.Wrong place n) x ≡ all
+      char_wrong place n e = comes (turn.Wrong place n) e
 
-      pub char-full : (place : ℕ) → t ≡ turn.Full place → passed (turn.Full place) x ≡ all
-      char-full place e = comes (turn.Full place) e
+      pub char_full : (place : ℕ) → t ≡ turn.Full place → passed (turn.Full place) x ≡ all
+      char_full place e = comes (turn.Full place) e
 
-  pub text-end : (t : Turn) → length text < i → t ≡ finished here (length text) → passed t out ≡ all
-  text-end t h e = rw e (go (ready here.next) refl ∙ ap (λ (l : List ℕ). rest text out here (marks mode i l)) (sym none) ∙ inv)
+  pub text_end : (t : Turn) → length text < i → t ≡ finished here (length text) → passed t out ≡ all
+  text_end t h e = rw e (go (ready here.next) refl ∙ ap (λ (l : List ℕ). rest text out here (marks mode i l)) (sym none) ∙ inv)
     where
       none : drop i (ended text) ≡ []
       none = drop_of_length-le (ended text) {i = i} (omega (arith, length-append text (ascii "\n")))
@@ -100,6 +100,6 @@ module _ (text out : List ℕ) (mode : Mode) (here : Here) (i : ℕ) {all : Told
       go true q = rw q (ap (λ (n : ℕ). spelt n out) (sym (add-zero here.at)))
       go false q = rw q
 
-pub text-start : (text out : List ℕ) → rest text out start (unread text Between 0) ≡ wholly text out
+pub text_start : (text out : List ℕ) → rest text out start (unread text Between 0) ≡ wholly text out
 unfolding meaning
-text-start text out = refl
+text_start text out = refl

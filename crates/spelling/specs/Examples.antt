@@ -2,15 +2,15 @@
 -- is item b + 12, and byte A5h, item 177, is B1h 01h. Each is computed from the definitions. Assumes nothing.
 use Rattle.std.specs.Prelude.{Bool, true, false, ◌&&◌, List, [], ◌∷◌, ℕ, T, eqb}
 use Prim.Native.String.{String}
-use Rattle.sayings.specs.Characters.{ascii, kind_of, lowered, digitOf}
-use Rattle.sayings.specs.Says.{pinOf, saidVerb, saidAny, saidName, saidPart, saidKept, saidLevel, pulsesOf, saidIdle, saidHeld, saidBits, saidItem, saidWord, saidEnd}
-use Rattle.sayings.specs.Words.{named, byte_of, number_of, allBits}
+use Rattle.sayings.specs.Characters.{ascii, kind_of, lowered, digit_of}
+use Rattle.sayings.specs.Says.{pin_of, said_verb, said_any, said_name, said_part, said_kept, said_level, pulses_of, said_idle, said_held, said_bits, said_item, said_word, said_end}
+use Rattle.sayings.specs.Words.{named, byte_of, number_of, all_bits}
 use Rattle.sayings.specs.declared.says.Next.{Next}
 use Rattle.sayings.specs.declared.says.Next.TheVariants as next
 use Rattle.trace.specs.Form.{form}
 use Rattle.spelling.specs.Items.{forms}
 use Rattle.spelling.specs.Meaning.{Meaning, names, wrong, full, long, ready, stepped, meaning}
-use Rattle.spelling.specs.Spelt.{placeAt, spelt}
+use Rattle.spelling.specs.Spelt.{place_at, spelt}
 
 abbrev same : List ℕ → List ℕ → Bool
 same [] [] = true
@@ -23,39 +23,39 @@ all [] = true
 all (b ∷ bs) = b && all bs
 
 -- the bytes that a text spells
-abbrev bytesAre : List ℕ → Meaning → Bool
-bytesAre bs (names items) = same (forms items) bs
-bytesAre bs (wrong i n) = false
-bytesAre bs (full i) = false
-bytesAre bs long = false
+abbrev bytes_are : List ℕ → Meaning → Bool
+bytes_are bs (names items) = same (forms items) bs
+bytes_are bs (wrong i n) = false
+bytes_are bs (full i) = false
+bytes_are bs long = false
 
 -- what may stand next, as a number
-abbrev numberOfNext : Next → ℕ
-numberOfNext next.Part = 0
-numberOfNext next.PartNumber = 1
-numberOfNext next.Kept = 2
-numberOfNext next.KeptByte = 3
-numberOfNext next.LineEnd = 4
-numberOfNext next.Word = 5
-numberOfNext (next.Level pin) = 6
-numberOfNext next.Idle = 7
-numberOfNext next.Held = 8
-numberOfNext next.Bits = 9
-numberOfNext next.Item = 10
+abbrev number_of_next : Next → ℕ
+number_of_next next.Part = 0
+number_of_next next.PartNumber = 1
+number_of_next next.Kept = 2
+number_of_next next.KeptByte = 3
+number_of_next next.LineEnd = 4
+number_of_next next.Word = 5
+number_of_next (next.Level pin) = 6
+number_of_next next.Idle = 7
+number_of_next next.Held = 8
+number_of_next next.Bits = 9
+number_of_next next.Item = 10
 
 -- where a text is wrong, and what was expected there
-abbrev wrongAt : List ℕ → ℕ → ℕ → Next → Meaning → Bool
-wrongAt text line column n (names items) = false
-wrongAt text line column n (wrong i m) =
-    eqb (placeAt text i).line line && eqb (placeAt text i).column column && eqb (numberOfNext m) (numberOfNext n)
-wrongAt text line column n (full i) = false
-wrongAt text line column n long = false
+abbrev wrong_at : List ℕ → ℕ → ℕ → Next → Meaning → Bool
+wrong_at text line column n (names items) = false
+wrong_at text line column n (wrong i m) =
+    eqb (place_at text i).line line && eqb (place_at text i).column column && eqb (number_of_next m) (number_of_next n)
+wrong_at text line column n (full i) = false
+wrong_at text line column n long = false
 
 abbrev spells : String → List ℕ → Bool
-spells text bs = bytesAre bs (spelt (ascii text))
+spells text bs = bytes_are bs (spelt (ascii text))
 
 abbrev fails : String → ℕ → ℕ → Next → Bool
-fails text line column n = wrongAt (ascii text) line column n (spelt (ascii text))
+fails text line column n = wrong_at (ascii text) line column n (spelt (ascii text))
 
 -- order 4471: WREN; WRITE A5h at 010h; WRITE 5Ah at 011h. A select is a fall of /CS, 0, its bytes, and a rise, 1.
 abbrev order4471 : Bool
@@ -109,5 +109,5 @@ bad =
     ∷ []
 
 examples : T (all good && all bad)
-unfolding spelt meaning placeAt stepped ready form kind_of lowered digitOf named byte_of number_of allBits pinOf saidVerb saidAny saidName saidPart saidKept saidLevel pulsesOf saidIdle saidHeld saidBits saidItem saidWord saidEnd
+unfolding spelt meaning place_at stepped ready form kind_of lowered digit_of named byte_of number_of all_bits pin_of said_verb said_any said_name said_part said_kept said_level pulses_of said_idle said_held said_bits said_item said_word said_end
 examples = tt

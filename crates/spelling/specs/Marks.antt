@@ -15,60 +15,60 @@ char_at text i = cond (ltb i (length text)) (get_or text i 0) (char "\n")
 -- what a text is made of: a word, from a place up to another; what a line says ends at a place
 pub data Mark : Type 0 where
   word : ℕ → ℕ → Mark
-  lineEnd : ℕ → Mark
+  line_end : ℕ → Mark
 
 -- the word that a character ends: any but a letter ends one
-abbrev pub wordEnded : Mode → Kind → Ended
-wordEnded Between kind = Nothing
-wordEnded Comment kind = Nothing
-wordEnded (Inside from) NewLine = Word from
-wordEnded (Inside from) Hash = Word from
-wordEnded (Inside from) Blank = Word from
-wordEnded (Inside from) Letter = Nothing
+abbrev pub word_ended : Mode → Kind → Ended
+word_ended Between kind = Nothing
+word_ended Comment kind = Nothing
+word_ended (Inside from) NewLine = Word from
+word_ended (Inside from) Hash = Word from
+word_ended (Inside from) Blank = Word from
+word_ended (Inside from) Letter = Nothing
 
 -- a line's end and a comment's start end what the line says; in a comment it has ended
-abbrev pub endsLine : Kind → Bool
-endsLine NewLine = true
-endsLine Hash = true
-endsLine Blank = false
-endsLine Letter = false
+abbrev pub ends_line : Kind → Bool
+ends_line NewLine = true
+ends_line Hash = true
+ends_line Blank = false
+ends_line Letter = false
 
-abbrev pub lineEnded : Mode → Kind → Bool
-lineEnded Between kind = endsLine kind
-lineEnded Comment kind = false
-lineEnded (Inside from) kind = endsLine kind
+abbrev pub line_ended : Mode → Kind → Bool
+line_ended Between kind = ends_line kind
+line_ended Comment kind = false
+line_ended (Inside from) kind = ends_line kind
 
 -- where the next character stands, after one at a place
-abbrev pub afterBlank : Mode → Mode
-afterBlank Between = Between
-afterBlank Comment = Comment
-afterBlank (Inside from) = Between
+abbrev pub after_blank : Mode → Mode
+after_blank Between = Between
+after_blank Comment = Comment
+after_blank (Inside from) = Between
 
-abbrev pub afterLetter : Mode → ℕ → Mode
-afterLetter Between i = Inside i
-afterLetter Comment i = Comment
-afterLetter (Inside from) i = Inside from
+abbrev pub after_letter : Mode → ℕ → Mode
+after_letter Between i = Inside i
+after_letter Comment i = Comment
+after_letter (Inside from) i = Inside from
 
-abbrev pub modeAfter : Mode → Kind → ℕ → Mode
-modeAfter mode NewLine i = Between
-modeAfter mode Hash i = Comment
-modeAfter mode Blank i = afterBlank mode
-modeAfter mode Letter i = afterLetter mode i
+abbrev pub mode_after : Mode → Kind → ℕ → Mode
+mode_after mode NewLine i = Between
+mode_after mode Hash i = Comment
+mode_after mode Blank i = after_blank mode
+mode_after mode Letter i = after_letter mode i
 
 -- the marks that a character at a place sets
-abbrev pub wordMarks : Ended → ℕ → List Mark
-wordMarks Nothing i = []
-wordMarks (Word from) i = word from i ∷ []
+abbrev pub word_marks : Ended → ℕ → List Mark
+word_marks Nothing i = []
+word_marks (Word from) i = word from i ∷ []
 
-abbrev pub lineMarks : Bool → ℕ → List Mark
-lineMarks ends i = cond ends (lineEnd i ∷ []) []
+abbrev pub line_marks : Bool → ℕ → List Mark
+line_marks ends i = cond ends (line_end i ∷ []) []
 
 -- the marks of characters, the first of which has a mode and a place
 abbrev pub marks : Mode → ℕ → List ℕ → List Mark
 marks mode i [] = []
 marks mode i (c ∷ cs) =
     let kind = kind_of c in
-    wordMarks (wordEnded mode kind) i ++ lineMarks (lineEnded mode kind) i ++ marks (modeAfter mode kind i) (suc i) cs
+    word_marks (word_ended mode kind) i ++ line_marks (line_ended mode kind) i ++ marks (mode_after mode kind i) (suc i) cs
 
 -- a word begins before the place where it is read
 abbrev pub ModeFits : Mode → ℕ → Type 0

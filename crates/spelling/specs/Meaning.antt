@@ -2,8 +2,8 @@
 use Rattle.std.specs.Prelude.{ℕ, ◌+◌, ◌-◌, Bool, true, false, cond, List, [], ◌∷◌, ◌++◌, leb, length, take, drop}
 use Rattle.sayings.specs.Characters.{ascii}
 use Rattle.spelling.specs.Items.{items_of, forms}
-use Rattle.spelling.specs.Marks.{Mark, word, lineEnd, marks}
-use Rattle.sayings.specs.Says.{saidWord, saidEnd}
+use Rattle.spelling.specs.Marks.{Mark, word, line_end, marks}
+use Rattle.sayings.specs.Says.{said_word, said_end}
 use Rattle.spelling.specs.declared.marks.Mode.TheVariants.{Between}
 use Rattle.sayings.specs.declared.says.Next.{Next}
 use Rattle.sayings.specs.declared.says.Next.TheVariants as next
@@ -27,30 +27,30 @@ start = record { selected = false; next = next.Part; at = 0 }
 
 -- where the reading stands after what was said, with the trace so long: "/CS goes low before the first" byte of a line
 -- "and high at the line's end"
-abbrev pub hereAfter : Bool → Said → ℕ → Here
-hereAfter selected said.Wrong at = record { selected = selected; next = next.Word; at = at }
-hereAfter selected (said.Then n) at = record { selected = selected; next = n; at = at }
-hereAfter selected (said.One item n) at = record { selected = selected; next = n; at = at }
-hereAfter selected (said.Byte byte) at = record { selected = true; next = next.Word; at = at }
-hereAfter selected said.Close at = record { selected = false; next = next.Word; at = at }
-hereAfter selected (said.InHold pulses) at = record { selected = selected; next = next.Word; at = at }
-hereAfter selected said.Clocked at = record { selected = selected; next = next.Word; at = at }
+abbrev pub here_after : Bool → Said → ℕ → Here
+here_after selected said.Wrong at = record { selected = selected; next = next.Word; at = at }
+here_after selected (said.Then n) at = record { selected = selected; next = n; at = at }
+here_after selected (said.One item n) at = record { selected = selected; next = n; at = at }
+here_after selected (said.Byte byte) at = record { selected = true; next = next.Word; at = at }
+here_after selected said.Close at = record { selected = false; next = next.Word; at = at }
+here_after selected (said.InHold pulses) at = record { selected = selected; next = next.Word; at = at }
+here_after selected said.Clocked at = record { selected = selected; next = next.Word; at = at }
 
-abbrev pub isWrong : Said → Bool
-isWrong said.Wrong = true
-isWrong (said.Then n) = false
-isWrong (said.One item n) = false
-isWrong (said.Byte byte) = false
-isWrong said.Close = false
-isWrong (said.InHold pulses) = false
-isWrong said.Clocked = false
+abbrev pub is_wrong : Said → Bool
+is_wrong said.Wrong = true
+is_wrong (said.Then n) = false
+is_wrong (said.One item n) = false
+is_wrong (said.Byte byte) = false
+is_wrong said.Close = false
+is_wrong (said.InHold pulses) = false
+is_wrong said.Clocked = false
 
 -- what follows what a word says, or a line's end with no word: its items stand behind a trace that has room for so many bytes
 unfoldable pub stepped : ℕ → Here → List ℕ → Said → Step
 stepped size here w said =
     let n = length (forms (items_of here.selected w said)) in
-    cond (isWrong said) step.Wrong
-    (cond (leb n (size - here.at)) (step.On (hereAfter here.selected said (here.at + n)))
+    cond (is_wrong said) step.Wrong
+    (cond (leb n (size - here.at)) (step.On (here_after here.selected said (here.at + n)))
     step.Full)
 
 -- the characters from a place up to another
@@ -60,15 +60,15 @@ part first end text = take (end - first) (drop first text)
 -- a mark's word, what it says, and its place
 abbrev pub word_of : List ℕ → Mark → List ℕ
 word_of text (word first end) = part first end text
-word_of text (lineEnd i) = []
+word_of text (line_end i) = []
 
-abbrev pub saidBy : List ℕ → Here → Mark → Said
-saidBy text here (word first end) = saidWord here.next (part first end text)
-saidBy text here (lineEnd i) = saidEnd here.selected here.next
+abbrev pub said_by : List ℕ → Here → Mark → Said
+said_by text here (word first end) = said_word here.next (part first end text)
+said_by text here (line_end i) = said_end here.selected here.next
 
 abbrev pub place_of : Mark → ℕ
 place_of (word first end) = first
-place_of (lineEnd i) = i
+place_of (line_end i) = i
 
 -- a text may end where any word may stand: behind the first line, and not in the middle of another
 unfoldable pub ready : Next → Bool
@@ -101,7 +101,7 @@ onward step.Full place n items more = full place
 abbrev pub walk : List ℕ → ℕ → Here → List Mark → Meaning
 walk text size here [] = cond (ready here.next) (names []) (wrong (length text) here.next)
 walk text size here (m ∷ ms) =
-    let said = saidBy text here m in
+    let said = said_by text here m in
     let w = word_of text m in
     onward (stepped size here w said) (place_of m) here.next (items_of here.selected w said) (λ h. walk text size h ms)
 

@@ -4,5 +4,5 @@ use Rattle.laws.specs.TestLaws.{sole}
 use Rattle.spelling.specs.Spelt.{Spells}
 use Rattle.spelling.specs.declared.spell.Answer.{Answer}
 
-pub one-outcome : (text before x y : List ℕ) (r s : Answer) → Spells text before x r → Spells text before y s → (r ≡ s) × (x ≡ y)
-one-outcome text before x y r s p q = (sole p.answer q.answer, sole p.slice q.slice)
+pub one_outcome : (text before x y : List ℕ) (r s : Answer) → Spells text before x r → Spells text before y s → (r ≡ s) × (x ≡ y)
+one_outcome text before x y r s p q = (sole p.answer q.answer, sole p.slice q.slice)

@@ -8,34 +8,34 @@ use Rattle.spelling.specs.declared.spell.Answer.TheVariants as answer
 use Rattle.spelling.specs.declared.spell.Place.{Place}
 
 -- "up to 32,768 bytes, as if the input ended there": the most that the replay reads of a trace
-abbrev pub mostBytes : ℕ
-mostBytes = 32768
+abbrev pub most_bytes : ℕ
+most_bytes = 32768
 
 -- the meaning of any text: a trace has room for so many bytes, and a text has so many characters at most
 unfoldable pub spelt : List ℕ → Meaning
-spelt text = cond (ltb longest (length text)) long (meaning mostBytes text)
+spelt text = cond (ltb longest (length text)) long (meaning most_bytes text)
 
 -- "line and column (from 1)": the place behind a character, and behind more of them
-abbrev pub nextPlace : Place → ℕ → Place
-nextPlace place c =
+abbrev pub next_place : Place → ℕ → Place
+next_place place c =
     let ends = eqb c (char "\n") in
     record { line = cond ends (place.line + 1) place.line; column = cond ends 1 (place.column + 1) }
 
-abbrev pub placeFrom : ℕ → ℕ → List ℕ → Place
-placeFrom line column [] = record { line = line; column = column }
-placeFrom line column (c ∷ cs) =
-    let next = nextPlace (record { line = line; column = column }) c in
-    placeFrom next.line next.column cs
+abbrev pub place_from : ℕ → ℕ → List ℕ → Place
+place_from line column [] = record { line = line; column = column }
+place_from line column (c ∷ cs) =
+    let next = next_place (record { line = line; column = column }) c in
+    place_from next.line next.column cs
 
 -- the place of the character at i
-unfoldable pub placeAt : List ℕ → ℕ → Place
-placeAt text i = placeFrom 1 1 (take i text)
+unfoldable pub place_at : List ℕ → ℕ → Place
+place_at text i = place_from 1 1 (take i text)
 
 -- what is answered
 abbrev pub answered : List ℕ → Meaning → Answer
 answered text (names items) = answer.Spelt (length (forms items))
-answered text (wrong i n) = answer.Wrong (placeAt text i) n
-answered text (full i) = answer.Full (placeAt text i)
+answered text (wrong i n) = answer.Wrong (place_at text i) n
+answered text (full i) = answer.Full (place_at text i)
 answered text long = answer.Long
 
 -- the lent slice: the trace stands at its front, and the rest is as it was; where nothing is spelt, all of it is

@@ -1,6 +1,6 @@
 // A text character by character: where words and lines end.
 ghost use Rattle.std.specs.Prelude.{◌≡◌};
-ghost use Rattle.spelling.specs.Marks.{char_at, wordEnded, endsLine, lineEnded, afterBlank, afterLetter, modeAfter};
+ghost use Rattle.spelling.specs.Marks.{char_at, word_ended, ends_line, line_ended, after_blank, after_letter, mode_after};
 
 use sayings::chars::Kind;
 
@@ -31,7 +31,7 @@ pub(crate) fn char_at(text: &[u8], i: usize) -> u8
 
 // The word that a character ends: any but a letter ends one.
 pub(crate) fn word_ended(mode: Mode, kind: Kind) -> Ended
-    ensures { result ≡ wordEnded mode kind }
+    ensures { result ≡ word_ended mode kind }
 {
     match mode {
         Mode::Between => Ended::Nothing,
@@ -47,7 +47,7 @@ pub(crate) fn word_ended(mode: Mode, kind: Kind) -> Ended
 
 // Whether a character ends what a line says: a comment's start does, and then the line's end does no more.
 pub(crate) fn line_ended(mode: Mode, kind: Kind) -> bool
-    ensures { result ≡ lineEnded mode kind }
+    ensures { result ≡ line_ended mode kind }
 {
     match mode {
         Mode::Comment => false,
@@ -57,7 +57,7 @@ pub(crate) fn line_ended(mode: Mode, kind: Kind) -> bool
 }
 
 fn ends_line(kind: Kind) -> bool
-    ensures { result ≡ endsLine kind }
+    ensures { result ≡ ends_line kind }
 {
     match kind {
         Kind::NewLine => true,
@@ -69,7 +69,7 @@ fn ends_line(kind: Kind) -> bool
 
 // Where the character after it stands.
 pub(crate) fn mode_after(mode: Mode, kind: Kind, i: usize) -> Mode
-    ensures { result ≡ modeAfter mode kind i }
+    ensures { result ≡ mode_after mode kind i }
 {
     match kind {
         Kind::NewLine => Mode::Between,
@@ -80,7 +80,7 @@ pub(crate) fn mode_after(mode: Mode, kind: Kind, i: usize) -> Mode
 }
 
 fn after_blank(mode: Mode) -> Mode
-    ensures { result ≡ afterBlank mode }
+    ensures { result ≡ after_blank mode }
 {
     match mode {
         Mode::Between => Mode::Between,
@@ -90,7 +90,7 @@ fn after_blank(mode: Mode) -> Mode
 }
 
 fn after_letter(mode: Mode, i: usize) -> Mode
-    ensures { result ≡ afterLetter mode i }
+    ensures { result ≡ after_letter mode i }
 {
     match mode {
         Mode::Between => Mode::Inside { from: i },

@@ -2,7 +2,7 @@
 ghost use Rattle.std.specs.Prelude.{[], ◌≤◌};
 ghost use Rattle.trace.specs.Figures.{largest};
 ghost use Rattle.trace.specs.Form.{form};
-ghost use Rattle.spelling.specs.Items.{forms, bitItems, items_of};
+ghost use Rattle.spelling.specs.Items.{forms, bit_items, items_of};
 ghost use Rattle.spelling.specs.Lays.{Lays, Small};
 ghost use Rattle.sayings.specs.SaysLaws.{Fits};
 
@@ -56,7 +56,7 @@ fn put_items(out: &mut [u8], at: usize, items: &[u64]) -> Laid
 
 // "single bits, each SI, SCK up, SCK down".
 fn put_bits(out: &mut [u8], at: usize, word: &[u8]) -> Laid
-    ensures { Lays out.old at (forms (bitItems word.now)) out.new result }
+    ensures { Lays out.old at (forms (bit_items word.now)) out.new result }
 {
     let mut next = at;
     let mut i = 0;

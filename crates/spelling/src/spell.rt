@@ -2,7 +2,7 @@
 ghost use Rattle.std.specs.Prelude.{◌≡◌, ◌+◌, ◌≤◌, length};
 ghost use Rattle.std.proofs.lemmas.List.Edits.{sets};
 ghost use Rattle.spelling.specs.Meaning.{longest};
-ghost use Rattle.spelling.specs.Spelt.{Spells, mostBytes, nextPlace, placeFrom, placeAt};
+ghost use Rattle.spelling.specs.Spelt.{Spells, most_bytes, next_place, place_from, place_at};
 
 use crate::turns::{Turn, pass};
 use sayings::says::Next;
@@ -31,7 +31,7 @@ pub enum Answer {
 // The place behind a character.
 fn next_place(place: Place, c: u8) -> Place
     requires { (place.line ≤ longest) × (place.column ≤ longest) }
-    ensures { result ≡ nextPlace place c }
+    ensures { result ≡ next_place place c }
 {
     if c == b'\n' {
         return Place {
@@ -48,7 +48,7 @@ fn next_place(place: Place, c: u8) -> Place
 // The place behind characters that begin a text.
 fn place_behind(front: &[u8]) -> Place
     requires { length front.now ≤ longest }
-    ensures { result ≡ placeFrom 1 1 front.now }
+    ensures { result ≡ place_from 1 1 front.now }
 {
     let mut place = Place { line: 1, column: 1 };
     let mut i = 0;
@@ -62,7 +62,7 @@ fn place_behind(front: &[u8]) -> Place
 // The place of the character at `i`; at the text's end where there is none.
 fn place_at(text: &[u8], i: usize) -> Place
     requires { length text.now ≤ longest }
-    ensures { result ≡ placeAt text.now i }
+    ensures { result ≡ place_at text.now i }
 {
     if text.len() <= i {
         return place_behind(text);
@@ -91,7 +91,7 @@ pub fn copy(out: &mut [u8], at: usize, bytes: &[u8])
 // The trace is made in `trace`, and copied where the whole text is spelt.
 fn spell_in(text: &[u8], trace: &mut [u8], out: &mut [u8]) -> Answer
     requires text_len_bound { length text.now ≤ longest }
-    requires trace_len { (length trace.old ≡ mostBytes) × (length out.old ≡ mostBytes) }
+    requires trace_len { (length trace.old ≡ most_bytes) × (length out.old ≡ most_bytes) }
     ensures { Spells text.now out.old out.new result }
 {
     match pass(text, trace) {

@@ -1,7 +1,7 @@
 // A text's words and lines taken one after the other, each by what it says; the trace grows in a lent slice.
 ghost use Rattle.std.specs.Prelude.{◌≡◌, [], ◌∷◌, ◌++◌, ◌≤◌, length};
-ghost use Rattle.spelling.specs.Marks.{word, lineEnd, wordMarks, lineMarks, EndedFits};
-ghost use Rattle.spelling.specs.Meaning.{hereAfter, isWrong, ready, longest};
+ghost use Rattle.spelling.specs.Marks.{word, line_end, word_marks, line_marks, EndedFits};
+ghost use Rattle.spelling.specs.Meaning.{here_after, is_wrong, ready, longest};
 ghost use Rattle.sayings.specs.SaysLaws.{Fits};
 ghost use Rattle.spelling.specs.Told.{Acts, Follows, turn_of, finished, passed, wholly};
 
@@ -35,7 +35,7 @@ pub enum Turn {
 }
 
 fn here_after(selected: bool, said: Said, at: usize) -> Here
-    ensures { result ≡ hereAfter selected said at }
+    ensures { result ≡ here_after selected said at }
 {
     match said {
         Said::Wrong => any_word(selected, at),
@@ -49,14 +49,14 @@ fn here_after(selected: bool, said: Said, at: usize) -> Here
 }
 
 fn any_word(selected: bool, at: usize) -> Here
-    ensures { result ≡ hereAfter selected Said.Clocked at }
+    ensures { result ≡ here_after selected Said.Clocked at }
 {
     let next = Next::Word;
     Here { selected, next, at }
 }
 
 fn is_wrong(said: Said) -> bool
-    ensures { result ≡ isWrong said }
+    ensures { result ≡ is_wrong said }
 {
     match said {
         Said::Wrong => true,
@@ -113,7 +113,7 @@ fn take_word(text: &[u8], from: usize, end: usize, here: Here, out: &mut [u8]) -
 
 // The end of what a line says.
 fn take_end(text: &[u8], i: usize, here: Here, out: &mut [u8]) -> Turn
-    ensures { Follows text.now out.old here (lineEnd i ∷ []) out.new result }
+    ensures { Follows text.now out.old here (line_end i ∷ []) out.new result }
 {
     let next = here.next;
     let said = hear_end(here.selected, next);
@@ -123,7 +123,7 @@ fn take_end(text: &[u8], i: usize, here: Here, out: &mut [u8]) -> Turn
 
 // The end of a line, where a character ends one.
 fn turn_line(text: &[u8], i: usize, ends: bool, here: Here, out: &mut [u8]) -> Turn
-    ensures { Follows text.now out.old here (lineMarks ends i) out.new result }
+    ensures { Follows text.now out.old here (line_marks ends i) out.new result }
 {
     if ends {
         return take_end(text, i, here, out);
@@ -134,7 +134,7 @@ fn turn_line(text: &[u8], i: usize, ends: bool, here: Here, out: &mut [u8]) -> T
 // The word and the line that a character ends.
 fn take_char(text: &[u8], i: usize, ended: Ended, ends: bool, here: Here, out: &mut [u8]) -> Turn
     requires { EndedFits ended i × (i ≤ length text.now) }
-    ensures { Follows text.now out.old here (wordMarks ended i ++ lineMarks ends i) out.new result }
+    ensures { Follows text.now out.old here (word_marks ended i ++ line_marks ends i) out.new result }
 {
     match ended {
         Ended::Nothing => turn_line(text, i, ends, here, out),

@@ -1,8 +1,8 @@
 -- The edges of /CS that a select sees, and sleep. Assumes nothing.
 use Rattle.std.specs.Prelude.{Bool, true, false, cond}
 use Rattle.parts.specs.declared.figures.Figure.{Figure}
-use Rattle.stages.specs.Bits.{noBits}
-use Rattle.stages.specs.Wp.{fallWp}
+use Rattle.stages.specs.Bits.{no_bits}
+use Rattle.stages.specs.Wp.{fall_wp}
 use Rattle.stages.specs.declared.stage.Came.TheVariants.{NoByte, NoByteLow, Bytes, BytesLow}
 use Rattle.stages.specs.declared.stage.End.{End}
 use Rattle.stages.specs.declared.stage.End.TheVariants.{Quiet, Drops, Sleeps}
@@ -10,38 +10,38 @@ use Rattle.stages.specs.declared.stage.Stage.{Stage}
 use Rattle.stages.specs.declared.stage.Stage.TheVariants.{Closed, Asleep, Code, Upper, Lower, Dummy, Ready, ArrayOut, StatusOut, IdentOut, SerialOut, Writing, Keeping, Over}
 
 -- no select is open
-abbrev pub isClosed : Stage → Bool
-isClosed Closed = true
-isClosed Asleep = true
-isClosed (Code wp shift) = false
-isClosed (Upper purpose shift) = false
-isClosed (Lower purpose shift page) = false
-isClosed (Dummy shift at) = false
-isClosed (Ready what at) = false
-isClosed (ArrayOut level bit at) = false
-isClosed (StatusOut level bit) = false
-isClosed (IdentOut level bit at) = false
-isClosed (SerialOut level bit at) = false
-isClosed (Writing came shift last at) = false
-isClosed (Keeping wp shift) = false
-isClosed (Over end) = false
+abbrev pub is_closed : Stage → Bool
+is_closed Closed = true
+is_closed Asleep = true
+is_closed (Code wp shift) = false
+is_closed (Upper purpose shift) = false
+is_closed (Lower purpose shift page) = false
+is_closed (Dummy shift at) = false
+is_closed (Ready what at) = false
+is_closed (ArrayOut level bit at) = false
+is_closed (StatusOut level bit) = false
+is_closed (IdentOut level bit at) = false
+is_closed (SerialOut level bit at) = false
+is_closed (Writing came shift last at) = false
+is_closed (Keeping wp shift) = false
+is_closed (Over end) = false
 
 -- the chip sleeps
-abbrev pub isAsleep : Stage → Bool
-isAsleep Closed = false
-isAsleep Asleep = true
-isAsleep (Code wp shift) = false
-isAsleep (Upper purpose shift) = false
-isAsleep (Lower purpose shift page) = false
-isAsleep (Dummy shift at) = false
-isAsleep (Ready what at) = false
-isAsleep (ArrayOut level bit at) = false
-isAsleep (StatusOut level bit) = false
-isAsleep (IdentOut level bit at) = false
-isAsleep (SerialOut level bit at) = false
-isAsleep (Writing came shift last at) = false
-isAsleep (Keeping wp shift) = false
-isAsleep (Over end) = false
+abbrev pub is_asleep : Stage → Bool
+is_asleep Closed = false
+is_asleep Asleep = true
+is_asleep (Code wp shift) = false
+is_asleep (Upper purpose shift) = false
+is_asleep (Lower purpose shift page) = false
+is_asleep (Dummy shift at) = false
+is_asleep (Ready what at) = false
+is_asleep (ArrayOut level bit at) = false
+is_asleep (StatusOut level bit) = false
+is_asleep (IdentOut level bit at) = false
+is_asleep (SerialOut level bit at) = false
+is_asleep (Writing came shift last at) = false
+is_asleep (Keeping wp shift) = false
+is_asleep (Over end) = false
 
 -- what the close does besides
 abbrev pub end_of : Stage → End
@@ -65,23 +65,23 @@ end_of (Over end) = end
 
 -- "The latch drops at the rise of /CS that ends a WRITE or WRSR with at least one whole data byte, held back or
 --  not (H)."
-abbrev pub dropsAt : End → Bool
-dropsAt Quiet = false
-dropsAt Drops = true
-dropsAt Sleeps = false
+abbrev pub drops_at : End → Bool
+drops_at Quiet = false
+drops_at Drops = true
+drops_at Sleeps = false
 
 abbrev pub drops : Stage → Bool
-drops stage = dropsAt (end_of stage)
+drops stage = drops_at (end_of stage)
 
 -- "SLEEP B9h takes effect at the rise of /S"
-abbrev pub closedBy : End → Stage
-closedBy Quiet = Closed
-closedBy Drops = Closed
-closedBy Sleeps = Asleep
+abbrev pub closed_by : End → Stage
+closed_by Quiet = Closed
+closed_by Drops = Closed
+closed_by Sleeps = Asleep
 
-abbrev pub afterClose : Stage → Stage
-afterClose stage = closedBy (end_of stage)
+abbrev pub after_close : Stage → Stage
+after_close stage = closed_by (end_of stage)
 
 -- "A seen fall of /CS opens a select". "the next fall of /S wakes the chip and the rest of that select is ignored"
-unfoldable pub afterFall : Figure → Bool → Stage → Stage
-afterFall f wp stage = cond (isAsleep stage) (Over Quiet) (Code (fallWp f wp) noBits)
+unfoldable pub after_fall : Figure → Bool → Stage → Stage
+after_fall f wp stage = cond (is_asleep stage) (Over Quiet) (Code (fall_wp f wp) no_bits)

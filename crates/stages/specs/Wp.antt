@@ -1,7 +1,7 @@
 -- /WP and the data byte under way (document 02, Wishes 2 and 3). Assumes nothing.
 use Rattle.std.specs.Prelude.{ℕ, Bool, true, false, cond, not, ◌&&◌, eqb}
 use Rattle.parts.specs.declared.figures.Figure.{Figure}
-use Rattle.stages.specs.Bits.{noBits}
+use Rattle.stages.specs.Bits.{no_bits}
 use Rattle.stages.specs.declared.stage.Came.{Came}
 use Rattle.stages.specs.declared.stage.Came.TheVariants.{NoByte, NoByteLow, Bytes, BytesLow}
 use Rattle.stages.specs.declared.stage.Line.{Line}
@@ -12,42 +12,42 @@ abbrev pub line_of : Bool → Line
 line_of false = Down
 line_of true = Up
 
-abbrev pub isUp : Line → Bool
-isUp Down = false
-isUp Up = true
+abbrev pub is_up : Line → Bool
+is_up Down = false
+is_up Up = true
 
 -- the level that a WRITE's stage remembers with what came
-abbrev pub cameUp : Came → Bool
-cameUp NoByte = true
-cameUp NoByteLow = false
-cameUp Bytes = true
-cameUp BytesLow = false
+abbrev pub came_up : Came → Bool
+came_up NoByte = true
+came_up NoByteLow = false
+came_up Bytes = true
+came_up BytesLow = false
 
 -- whether a whole byte came
-abbrev pub someCame : Came → Bool
-someCame NoByte = false
-someCame NoByteLow = false
-someCame Bytes = true
-someCame BytesLow = true
+abbrev pub some_came : Came → Bool
+some_came NoByte = false
+some_came NoByteLow = false
+some_came Bytes = true
+some_came BytesLow = true
 
 -- what came, with another level
-abbrev pub cameWith : Came → Bool → Came
-cameWith NoByte wp = cond wp NoByte NoByteLow
-cameWith NoByteLow wp = cond wp NoByte NoByteLow
-cameWith Bytes wp = cond wp Bytes BytesLow
-cameWith BytesLow wp = cond wp Bytes BytesLow
+abbrev pub came_with : Came → Bool → Came
+came_with NoByte wp = cond wp NoByte NoByteLow
+came_with NoByteLow wp = cond wp NoByte NoByteLow
+came_with Bytes wp = cond wp Bytes BytesLow
+came_with BytesLow wp = cond wp Bytes BytesLow
 
 -- "it is read at the byte's first rise and remembered for that byte, a rise of /WP in mid-byte included"
-abbrev pub atFirst : {A : Type 0} → ℕ → A → A → A
-atFirst shift reads remembers = cond (eqb shift noBits) reads remembers
+abbrev pub at_first : {A : Type 0} → ℕ → A → A → A
+at_first shift reads remembers = cond (eqb shift no_bits) reads remembers
 
 -- "its level at the fall of /S counts for the whole select", where the row says so; else the level has one form there: up
-unfoldable pub fallWp : Figure → Bool → Line
-fallWp f pin = cond (f.wp_at_fall && not pin) Down Up
+unfoldable pub fall_wp : Figure → Bool → Line
+fall_wp f pin = cond (f.wp_at_fall && not pin) Down Up
 
 -- "This holds for WRITE and WRSR on all parts."
-unfoldable pub byteWp : Figure → Line → ℕ → Bool → Line
-byteWp f wp shift pin = cond f.wp_at_fall wp (atFirst shift (line_of pin) wp)
+unfoldable pub byte_wp : Figure → Line → ℕ → Bool → Line
+byte_wp f wp shift pin = cond f.wp_at_fall wp (at_first shift (line_of pin) wp)
 
-unfoldable pub byteCame : Came → ℕ → Bool → Came
-byteCame came shift pin = atFirst shift (cameWith came pin) came
+unfoldable pub byte_came : Came → ℕ → Bool → Came
+byte_came came shift pin = at_first shift (came_with came pin) came

@@ -1,6 +1,6 @@
 // The address that a header carries, and how it steps.
 ghost use Rattle.std.specs.Prelude.{◌≡◌};
-ghost use Rattle.stages.specs.Address.{codePage, afterCode, upperPage, afterAddress, nextAddress};
+ghost use Rattle.stages.specs.Address.{code_page, after_code, upper_page, after_address, next_address};
 
 use crate::bits::NO_BITS;
 use crate::stage::{Came, Purpose, Stage, What};
@@ -15,14 +15,14 @@ pub fn widen(x: u8) -> u32
 
 // The top address bit, where the op-code carries it.
 fn code_page(f: Figure, code: u8) -> u32
-    ensures { result ≡ codePage f code }
+    ensures { result ≡ code_page f code }
 {
     if code & f.top == 0 { 0 } else { 1 }
 }
 
 // The stage after the op-code of a READ or WRITE.
 pub fn header(f: Figure, purpose: Purpose, code: u8) -> Stage
-    ensures { result ≡ afterCode f purpose code }
+    ensures { result ≡ after_code f purpose code }
 {
     let shift = NO_BITS;
     let page = code_page(f, code);
@@ -39,14 +39,14 @@ pub fn header(f: Figure, purpose: Purpose, code: u8) -> Stage
 
 // The upper address byte less the bits that are ignored.
 pub fn upper_page(f: Figure, byte: u8) -> u32
-    ensures { result ≡ upperPage f byte }
+    ensures { result ≡ upper_page f byte }
 {
     widen(byte & f.upper)
 }
 
 // The stage after the whole address.
 pub fn addressed(f: Figure, purpose: Purpose, page: u32, byte: u8) -> Stage
-    ensures { result ≡ afterAddress f purpose page byte }
+    ensures { result ≡ after_address f purpose page byte }
 {
     let at = (page as usize) * 256 + (byte as usize);
     match purpose {
@@ -73,7 +73,7 @@ pub fn addressed(f: Figure, purpose: Purpose, page: u32, byte: u8) -> Stage
 
 // The next address, rolling from the last to 0.
 pub fn next_address(f: Figure, at: usize) -> usize
-    ensures { result ≡ nextAddress f at }
+    ensures { result ≡ next_address f at }
 {
     if f.size <= at {
         return 0;

@@ -1,6 +1,6 @@
 // Bits of a byte: taken in from SI, and shown on SO.
 ghost use Rattle.std.specs.Prelude.{◌≡◌};
-ghost use Rattle.stages.specs.Bits.{takeBit, bit_of};
+ghost use Rattle.stages.specs.Bits.{take_bit, bit_of};
 
 use crate::stage::Line;
 
@@ -16,7 +16,7 @@ pub const NO_BITS: u16 = 1;
 
 // The byte with one more bit, "most significant bit first". The eighth bit pushes the 1 out.
 pub fn take_bit(shift: u16, si: bool) -> Taken
-    ensures { result ≡ takeBit shift si }
+    ensures { result ≡ take_bit shift si }
 {
     let next = (shift << 1) | (si as u16);
     if next < 256 {

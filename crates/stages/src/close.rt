@@ -1,6 +1,6 @@
 // The seen edges of /CS: the rise that closes a select, the fall that opens one.
 ghost use Rattle.std.specs.Prelude.{◌≡◌};
-ghost use Rattle.stages.specs.Close.{isClosed, isAsleep, end_of, drops, afterClose, afterFall};
+ghost use Rattle.stages.specs.Close.{is_closed, is_asleep, end_of, drops, after_close, after_fall};
 
 use crate::bits::NO_BITS;
 use crate::stage::{Came, End, Stage};
@@ -9,7 +9,7 @@ use parts::figures::Figure;
 
 // Whether no select is open.
 pub fn is_closed(stage: Stage) -> bool
-    ensures { result ≡ isClosed stage }
+    ensures { result ≡ is_closed stage }
 {
     match stage {
         Stage::Closed => true,
@@ -20,7 +20,7 @@ pub fn is_closed(stage: Stage) -> bool
 
 // Whether the chip sleeps.
 pub fn is_asleep(stage: Stage) -> bool
-    ensures { result ≡ isAsleep stage }
+    ensures { result ≡ is_asleep stage }
 {
     match stage {
         Stage::Asleep => true,
@@ -57,7 +57,7 @@ pub fn drops(stage: Stage) -> bool
 
 // The stage after the close.
 pub fn after_close(stage: Stage) -> Stage
-    ensures { result ≡ afterClose stage }
+    ensures { result ≡ after_close stage }
 {
     match end_of(stage) {
         End::Quiet => Stage::Closed,
@@ -68,7 +68,7 @@ pub fn after_close(stage: Stage) -> Stage
 
 // The stage after a seen fall of /CS: an op-code is next; a chip that slept wakes, and nothing happens in this select.
 pub fn after_fall(f: Figure, wp: bool, stage: Stage) -> Stage
-    ensures { result ≡ afterFall f wp stage }
+    ensures { result ≡ after_fall f wp stage }
 {
     if is_asleep(stage) {
         Stage::Over { end: End::Quiet }

@@ -1,6 +1,6 @@
 // The part of the soundness test that looks at the stage.
 ghost use Rattle.std.specs.Prelude.{◌≡◌};
-ghost use Rattle.stages.specs.Sound.{soundShift, shownLength, soundLast, soundStage};
+ghost use Rattle.stages.specs.Sound.{sound_shift, shown_length, sound_last, sound_stage};
 
 use crate::bits::NO_BITS;
 use crate::stage::{Came, Stage, What};
@@ -9,14 +9,14 @@ use parts::figures::{Figure, IDENT};
 
 // Under eight bits after the 1.
 fn sound_shift(shift: u16) -> bool
-    ensures { result ≡ soundShift shift }
+    ensures { result ≡ sound_shift shift }
 {
     (0 < shift) & (shift < 256)
 }
 
 // How many bytes there are to show.
 fn shown_length(f: Figure, what: What) -> usize
-    ensures { result ≡ shownLength f what }
+    ensures { result ≡ shown_length f what }
 {
     match what {
         What::Array => f.size,
@@ -28,14 +28,14 @@ fn shown_length(f: Figure, what: What) -> usize
 
 // The byte stored last is one of the array, and there is none where no byte came.
 fn sound_last(f: Figure, came: Came, last: u32) -> bool
-    ensures { result ≡ soundLast f came last }
+    ensures { result ≡ sound_last f came last }
 {
     ((last as usize) <= f.size) & ((last == 0) | some_came(came))
 }
 
 // Whether the stage is sound on this part. A data byte's level of /WP is up where no bit of it came.
 pub fn sound_stage(f: Figure, stage: Stage) -> bool
-    ensures { result ≡ soundStage f stage }
+    ensures { result ≡ sound_stage f stage }
 {
     match stage {
         Stage::Closed => true,

@@ -1,6 +1,6 @@
 // /WP and the data byte under way (document 02, Wishes 2 and 3).
 ghost use Rattle.std.specs.Prelude.{◌≡◌};
-ghost use Rattle.stages.specs.Wp.{isUp, cameUp, someCame, cameWith, fallWp, byteWp, byteCame};
+ghost use Rattle.stages.specs.Wp.{is_up, came_up, some_came, came_with, fall_wp, byte_wp, byte_came};
 
 use crate::bits::NO_BITS;
 use crate::stage::{Came, Line};
@@ -8,7 +8,7 @@ use parts::figures::Figure;
 
 // Whether a level is up.
 pub fn is_up(line: Line) -> bool
-    ensures { result ≡ isUp line }
+    ensures { result ≡ is_up line }
 {
     match line {
         Line::Down => false,
@@ -18,7 +18,7 @@ pub fn is_up(line: Line) -> bool
 
 // Whether the level that is remembered with what came is up.
 pub fn came_up(came: Came) -> bool
-    ensures { result ≡ cameUp came }
+    ensures { result ≡ came_up came }
 {
     match came {
         Came::NoByte => true,
@@ -30,7 +30,7 @@ pub fn came_up(came: Came) -> bool
 
 // Whether a whole byte came.
 pub fn some_came(came: Came) -> bool
-    ensures { result ≡ someCame came }
+    ensures { result ≡ some_came came }
 {
     match came {
         Came::NoByte => false,
@@ -42,7 +42,7 @@ pub fn some_came(came: Came) -> bool
 
 // What came, with this level.
 fn came_with(came: Came, wp: bool) -> Came
-    ensures { result ≡ cameWith came wp }
+    ensures { result ≡ came_with came wp }
 {
     match came {
         Came::NoByte => if wp { Came::NoByte } else { Came::NoByteLow },
@@ -54,7 +54,7 @@ fn came_with(came: Came, wp: bool) -> Came
 
 // The level that is remembered at the fall of /CS: the pin's where the part reads it there, else up.
 pub fn fall_wp(f: Figure, pin: bool) -> Line
-    ensures { result ≡ fallWp f pin }
+    ensures { result ≡ fall_wp f pin }
 {
     if f.wp_at_fall & !pin {
         Line::Down
@@ -66,7 +66,7 @@ pub fn fall_wp(f: Figure, pin: bool) -> Line
 // The level that counts for WRSR's data byte: the pin's at the byte's first rise, from then on the one that was remembered; on a
 // part that reads it at the fall of /CS, the one from there.
 pub fn byte_wp(f: Figure, wp: Line, shift: u16, pin: bool) -> Line
-    ensures { result ≡ byteWp f wp shift pin }
+    ensures { result ≡ byte_wp f wp shift pin }
 {
     if f.wp_at_fall {
         return wp;
@@ -80,7 +80,7 @@ pub fn byte_wp(f: Figure, wp: Line, shift: u16, pin: bool) -> Line
 
 // The same for a WRITE's.
 pub fn byte_came(came: Came, shift: u16, pin: bool) -> Came
-    ensures { result ≡ byteCame came shift pin }
+    ensures { result ≡ byte_came came shift pin }
 {
     if shift == NO_BITS {
         came_with(came, pin)

@@ -3,59 +3,59 @@
 use Rattle.std.specs.Prelude.{ℕ, ◌/◌, ◌%◌, ◌≡◌, Bool, cond, List, eqb}
 use Rattle.std.proofs.Math.Path.{refl}
 use Rattle.std.proofs.Math.Bool.{true, false}
-use Rattle.parts.specs.Figures.{figureOf}
+use Rattle.parts.specs.Figures.{figure_of}
 use Rattle.laws.specs.TestLaws.{choose}
-use Rattle.pins.specs.Edges.{holdFall, holdRise}
-use Rattle.step.specs.Step.{csTo, sckTo, holdTo, csStayed, vddTo, live, dark, step}
-use Rattle.pins.specs.Levels.{csLevel, holdHigh}
+use Rattle.pins.specs.Edges.{hold_fall, hold_rise}
+use Rattle.step.specs.Step.{cs_to, sck_to, hold_to, cs_stayed, vdd_to, live, dark, step}
+use Rattle.pins.specs.Levels.{cs_level, hold_high}
 use Rattle.pins.specs.Sound.{sound}
 use Rattle.pins.specs.declared.state.State.{State}
 use Rattle.step.specs.declared.step.Stepped.{Stepped}
-use Rattle.pins.specs.SoundLaws.{good, rest-sound, Sound, Keeps, kept_on, cs-fall, cs-rise, sck-rise, sck-fall}
+use Rattle.pins.specs.SoundLaws.{good, rest_sound, Sound, Keeps, kept_on, cs_fall_lem, cs_rise_lem, sck_rise_lem, sck_fall_lem}
 
 abbrev pub Answers : Stepped → Type 0
 Answers t = Sound t.state
 
 module _ (s : State) (h : sound s ≡ true) (on : s.power ≡ true) where
-  cs-to : (level : Bool) → Keeps (csTo (figureOf s.part) s level)
-  cs-to true = choose Keeps (csLevel s) h (cs-rise s h on)
-  cs-to false = choose Keeps (csLevel s) (cs-fall s h on) h
+  cs_to_lem : (level : Bool) → Keeps (cs_to (figure_of s.part) s level)
+  cs_to_lem true = choose Keeps (cs_level s) h (cs_rise_lem s h on)
+  cs_to_lem false = choose Keeps (cs_level s) (cs_fall_lem s h on) h
 
-  sck-to : (serial xs : List ℕ) (level : Bool) → Keeps (sckTo (figureOf s.part) serial xs s level)
-  sck-to serial xs true = choose Keeps s.sck h (sck-rise s h on)
-  sck-to serial xs false = choose Keeps s.sck (sck-fall s h on serial xs) h
+  sck_to_lem : (serial xs : List ℕ) (level : Bool) → Keeps (sck_to (figure_of s.part) serial xs s level)
+  sck_to_lem serial xs true = choose Keeps s.sck h (sck_rise_lem s h on)
+  sck_to_lem serial xs false = choose Keeps s.sck (sck_fall_lem s h on serial xs) h
 
-  hold-to : (level : Bool) → Answers (holdTo s level)
-  unfolding holdFall holdRise
-  hold-to true =
-      choose Answers (holdHigh s.hold) h
-      (choose Answers s.sck h (choose Answers (csStayed s) (kept_on s h on _ refl refl refl refl) h))
-  hold-to false =
-      choose Answers (holdHigh s.hold) (choose Answers s.sck h (kept_on s h on _ refl refl refl refl)) h
+  hold_to_lem : (level : Bool) → Answers (hold_to s level)
+  unfolding hold_fall hold_rise
+  hold_to_lem true =
+      choose Answers (hold_high s.hold) h
+      (choose Answers s.sck h (choose Answers (cs_stayed s) (kept_on s h on _ refl refl refl refl) h))
+  hold_to_lem false =
+      choose Answers (hold_high s.hold) (choose Answers s.sck h (kept_on s h on _ refl refl refl refl)) h
 
-  vdd-to : (level : Bool) → Keeps (vddTo s level)
-  vdd-to true = h
-  vdd-to false = rest-sound s.part s.kept false (good s h).part (good s h).kept
+  vdd_to_lem : (level : Bool) → Keeps (vdd_to s level)
+  vdd_to_lem true = h
+  vdd_to_lem false = rest_sound s.part s.kept false (good s h).part (good s h).kept
 
-  live-sound : (serial xs : List ℕ) (pin : ℕ) (level : Bool) → Answers (live (figureOf s.part) serial xs s pin level)
+  live_sound : (serial xs : List ℕ) (pin : ℕ) (level : Bool) → Answers (live (figure_of s.part) serial xs s pin level)
   unfolding live
-  live-sound serial xs pin level =
-      choose Answers (eqb pin 0) (cs-to level)
-      (choose Answers (eqb pin 1) (sck-to serial xs level)
+  live_sound serial xs pin level =
+      choose Answers (eqb pin 0) (cs_to_lem level)
+      (choose Answers (eqb pin 1) (sck_to_lem serial xs level)
       (choose Answers (eqb pin 2) (kept_on s h on _ refl refl refl refl)
-      (choose Answers (eqb pin 3) (hold-to level)
+      (choose Answers (eqb pin 3) (hold_to_lem level)
       (choose Answers (eqb pin 4) (kept_on s h on _ refl refl refl refl)
-      (vdd-to level)))))
+      (vdd_to_lem level)))))
 
 module _ (s : State) (h : sound s ≡ true) where
-  dark-sound : (code : ℕ) → Answers (dark s code)
-  dark-sound code =
-      choose Keeps (eqb code 11) (rest-sound s.part s.kept true (good s h).part (good s h).kept) h
+  dark_sound : (code : ℕ) → Answers (dark s code)
+  dark_sound code =
+      choose Keeps (eqb code 11) (rest_sound s.part s.kept true (good s h).part (good s h).kept) h
 
-  pub step-sound : (serial xs : List ℕ) (code : ℕ) → Answers (step (figureOf s.part) serial xs s code)
+  pub step_sound : (serial xs : List ℕ) (code : ℕ) → Answers (step (figure_of s.part) serial xs s code)
   unfolding step
-  step-sound serial xs code = go s.power refl
+  step_sound serial xs code = go s.power refl
     where
-      go : (t : Bool) → s.power ≡ t → Answers (cond t (live (figureOf s.part) serial xs s (code / 2) (eqb (code % 2) 1)) (dark s code))
-      go true e = live-sound s h e serial xs (code / 2) (eqb (code % 2) 1)
-      go false e = dark-sound code
+      go : (t : Bool) → s.power ≡ t → Answers (cond t (live (figure_of s.part) serial xs s (code / 2) (eqb (code % 2) 1)) (dark s code))
+      go true e = live_sound s h e serial xs (code / 2) (eqb (code % 2) 1)
+      go false e = dark_sound code

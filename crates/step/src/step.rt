@@ -1,7 +1,7 @@
 // The step of one event: what it does where the checks 4, 2, 15 and 5 let it through.
 ghost use Rattle.std.specs.Prelude.{true, false, [], ◌≡◌, ◌/◌, ◌%◌, eqb};
-ghost use Rattle.step.specs.Step.{accepted, refused, csTo, sckTo, csStayed, holdUp, holdTo, vddTo, live, dark, step, written};
-ghost use Rattle.pins.specs.Edges.{siTo, wpTo};
+ghost use Rattle.step.specs.Step.{accepted, refused, cs_to, sck_to, cs_stayed, hold_up, hold_to, vdd_to, live, dark, step, written};
+ghost use Rattle.pins.specs.Edges.{si_to, wp_to};
 
 use parts::figures::Figure;
 use pins::hold::hold_high;
@@ -41,7 +41,7 @@ pub fn refuse(refusal: u8, state: State) -> Stepped
 
 // Each pin set to a level. "Setting a pin to the level it has is accepted and has no effect."
 fn cs_to(state: State, f: Figure, level: bool) -> Moved
-    ensures { result ≡ csTo f state level }
+    ensures { result ≡ cs_to f state level }
 {
     let cs = state.cs();
     if level {
@@ -52,7 +52,7 @@ fn cs_to(state: State, f: Figure, level: bool) -> Moved
 }
 
 fn sck_low(state: State, f: Figure, array: &[u8], serial: &[u8]) -> Moved
-    ensures { result ≡ sckTo f serial.now array.now state false }
+    ensures { result ≡ sck_to f serial.now array.now state false }
 {
     if state.sck {
         state.sck_fall(f, array, serial)
@@ -63,7 +63,7 @@ fn sck_low(state: State, f: Figure, array: &[u8], serial: &[u8]) -> Moved
 
 // A rise reads nothing that is lent.
 fn sck_high(state: State, f: Figure) -> Moved
-    ensures { result ≡ sckTo f [] [] state true }
+    ensures { result ≡ sck_to f [] [] state true }
 {
     if state.sck {
         state.silent()
@@ -74,7 +74,7 @@ fn sck_high(state: State, f: Figure) -> Moved
 
 // Whether /CS has the level that it had when /HOLD fell.
 fn cs_stayed(state: State) -> bool
-    ensures { result ≡ csStayed state }
+    ensures { result ≡ cs_stayed state }
 {
     let stage = state.stage;
     let cs = state.cs();
@@ -83,7 +83,7 @@ fn cs_stayed(state: State) -> bool
 
 // /HOLD, low so far, set high.
 fn hold_up(state: State) -> Stepped
-    ensures { result ≡ holdUp state }
+    ensures { result ≡ hold_up state }
 {
     if state.sck {
         refuse(6, state)
@@ -97,7 +97,7 @@ fn hold_up(state: State) -> Stepped
 }
 
 fn hold_to(state: State, level: bool) -> Stepped
-    ensures { result ≡ holdTo state level }
+    ensures { result ≡ hold_to state level }
 {
     let hold = state.hold;
     let off = hold_high(hold);
@@ -122,7 +122,7 @@ fn hold_to(state: State, level: bool) -> Stepped
 
 // SI and /WP go to the level that they are set to, had before or not.
 fn si_to(state: State, level: bool) -> Moved
-    ensures { result ≡ siTo state level }
+    ensures { result ≡ si_to state level }
 {
     if level {
         state.si_rise()
@@ -132,7 +132,7 @@ fn si_to(state: State, level: bool) -> Moved
 }
 
 fn wp_to(state: State, level: bool) -> Moved
-    ensures { result ≡ wpTo state level }
+    ensures { result ≡ wp_to state level }
 {
     if level {
         state.wp_rise()
@@ -142,7 +142,7 @@ fn wp_to(state: State, level: bool) -> Moved
 }
 
 fn vdd_to(state: State, level: bool) -> Moved
-    ensures { result ≡ vddTo state level }
+    ensures { result ≡ vdd_to state level }
 {
     if level {
         state.silent()

@@ -3,35 +3,35 @@
 use Rattle.std.specs.Prelude.{ℕ, Bool, true, ◌&&◌, List, [], ◌∷◌, ◌++◌, T}
 use Rattle.trace.specs.Number.{reading}
 use Rattle.trace.specs.Items.{clocked}
-use Rattle.parts.specs.Figures.{figureOf}
+use Rattle.parts.specs.Figures.{figure_of}
 use Rattle.parts.specs.Commands.{command}
-use Rattle.parts.specs.Guards.{firstProtected, mayStore}
-use Rattle.stages.specs.Address.{afterCode, afterAddress, nextAddress}
-use Rattle.stages.specs.Bits.{takeBit, bit_of}
-use Rattle.stages.specs.Wp.{fallWp, byteWp, byteCame}
-use Rattle.stages.specs.Close.{afterFall}
-use Rattle.stages.specs.Sound.{soundStage}
-use Rattle.select.specs.Fall.{showArray, showStatus, fall}
-use Rattle.select.specs.Rise.{opened, codeRise, upperRise, lowerRise, writeRise, rise}
-use Rattle.pins.specs.Edges.{csFall, csRise, sckRise, sckFall}
+use Rattle.parts.specs.Guards.{first_protected, may_store}
+use Rattle.stages.specs.Address.{after_code, after_address, next_address}
+use Rattle.stages.specs.Bits.{take_bit, bit_of}
+use Rattle.stages.specs.Wp.{fall_wp, byte_wp, byte_came}
+use Rattle.stages.specs.Close.{after_fall}
+use Rattle.stages.specs.Sound.{sound_stage}
+use Rattle.select.specs.Fall.{show_array, show_status, fall}
+use Rattle.select.specs.Rise.{opened, code_rise, upper_rise, lower_rise, write_rise, rise}
+use Rattle.pins.specs.Edges.{cs_fall, cs_rise, sck_rise, sck_fall}
 use Rattle.pins.specs.Sound.{rests, sound}
-use Rattle.pins.specs.Watch.{isOpen, seesRise}
+use Rattle.pins.specs.Watch.{is_open, sees_rise}
 use Rattle.step.specs.Step.{live, step, written}
 use Rattle.chip.specs.Event.{checks, event}
 use Rattle.chip.specs.Examples.Run.{same}
-use Rattle.supply.specs.Power.{fillRefusal, filled, powerRefusal, powerUp}
-use Rattle.report.specs.Record.{counted, codeAfter, sampled, risen, shownAfter, noted}
+use Rattle.supply.specs.Power.{fill_refusal, filled, power_refusal, power_up}
+use Rattle.report.specs.Record.{counted, code_after, sampled, risen, shown_after, noted}
 use Rattle.report.specs.Text.{ascii, capitals, hex, decimal}
-use Rattle.turns.specs.Bench.{afterEvent}
-use Rattle.turns.specs.Stand.{closes, clockedBy, shownBy, after}
+use Rattle.turns.specs.Bench.{after_event}
+use Rattle.turns.specs.Stand.{closes, clocked_by, shown_by, after}
 use Rattle.pulses.specs.Pulse.{pulsed}
 use Rattle.bench.specs.Head.{leading, head_of}
-use Rattle.words.specs.Changes.{codeComes, fallsAsleep, powerBack, changes, turned, sampledBy}
-use Rattle.words.specs.Dump.{allFresh, spacedByte, spaced, rowText, rowsText, arrayText}
-use Rattle.words.specs.Lines.{begun, said, powerLine, openLine, codeLine, closeLine, storedLine, heldLine, keptLine, keptHeldLine, latchLine, noteText, byteLine, shownText, refusedLine, grownText, runLine, leftLine, endLine}
-use Rattle.words.specs.Words.{address, reasonText, commandText, adviceText}
-use Rattle.story.specs.Scene.{acceptedText, eventScene, eventText, runScene, pulsesText, runText, itemScene, itemText}
-use Rattle.story.specs.Story.{endText, storyFrom, leftText, notPowered, fromPower, poweredText, story}
+use Rattle.words.specs.Changes.{code_comes, falls_asleep, power_back, changes, turned, sampled_by}
+use Rattle.words.specs.Dump.{all_fresh, spaced_byte, spaced, row_text, rows_text, array_text}
+use Rattle.words.specs.Lines.{begun, said, power_line, open_line, code_line, close_line, stored_line, held_line, kept_line, kept_held_line, latch_line, note_text, byte_line, shown_text, refused_line, grown_text, run_line, left_line, end_line}
+use Rattle.words.specs.Words.{address, reason_text, command_text, advice_text}
+use Rattle.story.specs.Scene.{accepted_text, event_scene, event_text, run_scene, pulses_text, run_text, item_scene, item_text}
+use Rattle.story.specs.Story.{end_text, story_from, left_text, not_powered, from_power, powered_text, story}
 
 pub record Example : Type 0 where
   pub trace : List ℕ
@@ -159,5 +159,5 @@ traces =
     ∷ []
 
 examples : T (all traces)
-unfolding all traces figureOf command afterCode afterAddress nextAddress takeBit fallWp byteWp byteCame afterFall bit_of showArray showStatus fall firstProtected mayStore opened codeRise upperRise lowerRise writeRise rise soundStage csFall csRise sckRise sckFall live step checks event written rests sound isOpen seesRise reading fillRefusal filled powerRefusal powerUp clocked counted codeAfter sampled risen shownAfter noted leading head_of afterEvent closes clockedBy shownBy after capitals hex decimal pulsed codeComes fallsAsleep powerBack changes turned sampledBy allFresh spacedByte spaced rowText rowsText arrayText begun said powerLine openLine codeLine closeLine storedLine heldLine keptLine keptHeldLine latchLine noteText byteLine shownText refusedLine grownText runLine leftLine endLine address reasonText commandText adviceText acceptedText eventScene eventText runScene pulsesText runText itemScene itemText endText storyFrom leftText notPowered fromPower poweredText story
+unfolding all traces figure_of command after_code after_address next_address take_bit fall_wp byte_wp byte_came after_fall bit_of show_array show_status fall first_protected may_store opened code_rise upper_rise lower_rise write_rise rise sound_stage cs_fall cs_rise sck_rise sck_fall live step checks event written rests sound is_open sees_rise reading fill_refusal filled power_refusal power_up clocked counted code_after sampled risen shown_after noted leading head_of after_event closes clocked_by shown_by after capitals hex decimal pulsed code_comes falls_asleep power_back changes turned sampled_by all_fresh spaced_byte spaced row_text rows_text array_text begun said power_line open_line code_line close_line stored_line held_line kept_line kept_held_line latch_line note_text byte_line shown_text refused_line grown_text run_line left_line end_line address reason_text command_text advice_text accepted_text event_scene event_text run_scene pulses_text run_text item_scene item_text end_text story_from left_text not_powered from_power powered_text story
 examples = tt

@@ -7,8 +7,8 @@ use Rattle.turns.specs.Page.{Page, page_of}
 use Rattle.words.specs.Prints.{Prints}
 use Rattle.story.specs.Story.{story}
 
-pub story-one : (s out : List ℕ) (a b : ℕ) (xs ys : List ℕ)
+pub story_one : (s out : List ℕ) (a b : ℕ) (xs ys : List ℕ)
     → Prints (page_of out 0) (story s) (page_of xs a) → Prints (page_of out 0) (story s) (page_of ys b) → (a ≡ b) × (xs ≡ ys)
-story-one s out a b xs ys p q =
+story_one s out a b xs ys p q =
     let same : page_of xs a ≡ page_of ys b = sole p.page q.page in
     (ap (λ (x : Page). x.at) same, ap (λ (x : Page). x.bytes) same)

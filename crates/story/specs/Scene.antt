@@ -1,19 +1,19 @@
 -- What is told of an event and of an item, by what stands on the bench and what the event call answers. Assumes nothing.
 use Rattle.std.specs.Prelude.{ℕ, ◌-◌, Bool, cond, List, [], ◌∷◌, ◌++◌, eqb, ltb, replicate}
-use Rattle.trace.specs.Figures.{lastByte}
-use Rattle.trace.specs.Items.{shortEvents}
+use Rattle.trace.specs.Figures.{last_byte}
+use Rattle.trace.specs.Items.{short_events}
 use Rattle.select.specs.declared.notes.Note.{Note}
 use Rattle.step.specs.Step.{written}
 use Rattle.chip.specs.Event.{event}
 use Rattle.chip.specs.declared.event.Answer.{Answer}
-use Rattle.report.specs.Record.{mostShown}
-use Rattle.turns.specs.Bench.{Bench, replaySerial}
+use Rattle.report.specs.Record.{most_shown}
+use Rattle.turns.specs.Bench.{Bench, replay_serial}
 use Rattle.turns.specs.Stand.{after}
 use Rattle.turns.specs.declared.stand.Stand.{Stand}
 use Rattle.turns.specs.declared.turn.Turn.{Turn}
 use Rattle.pulses.specs.Pulse.{pulsed}
-use Rattle.words.specs.Changes.{changes, turned, sampledBy}
-use Rattle.words.specs.Lines.{noteText, shownText, refusedLine, runLine}
+use Rattle.words.specs.Changes.{changes, turned, sampled_by}
+use Rattle.words.specs.Lines.{note_text, shown_text, refused_line, run_line}
 
 -- the refusal that stopped the run, or 0; what stands on the bench; the array
 pub record Scene : Type 0 where
@@ -24,69 +24,69 @@ pub record Scene : Type 0 where
 abbrev pub scene_of : Turn → List ℕ → Scene
 scene_of t array = record { refusal = t.refusal; stand = t.stand; array = array }
 
-abbrev pub runsOn : Scene → Bool
-runsOn b = eqb b.refusal 0
+abbrev pub runs_on : Scene → Bool
+runs_on b = eqb b.refusal 0
 
 -- ---- an event, by its answer
 
 -- what changed, the byte of SO that it made whole, and its note
-unfoldable pub acceptedText : ℕ → Stand → ℕ → Stand → Note → List ℕ
-acceptedText place before code after note =
-    changes place before after ++ shownText place (sampledBy before code) ++ noteText place note
+unfoldable pub accepted_text : ℕ → Stand → ℕ → Stand → Note → List ℕ
+accepted_text place before code after note =
+    changes place before after ++ shown_text place (sampled_by before code) ++ note_text place note
 
 -- as on the replay's bench: "Lent memory stays at every refusal."
-abbrev pub answeredScene : Scene → ℕ → Answer → Scene
-answeredScene b code a =
+abbrev pub answered_scene : Scene → ℕ → Answer → Scene
+answered_scene b code a =
     cond (eqb a.refusal 0)
     (record { refusal = 0; stand = after b.stand code a; array = written a.note b.array })
     (record { refusal = a.refusal; stand = b.stand; array = b.array })
 
-abbrev pub answeredText : Scene → ℕ → ℕ → Answer → List ℕ
-answeredText b place code a =
+abbrev pub answered_text : Scene → ℕ → ℕ → Answer → List ℕ
+answered_text b place code a =
     cond (eqb a.refusal 0)
-    (acceptedText place b.stand code (after b.stand code a) a.note)
-    (refusedLine place a.refusal)
+    (accepted_text place b.stand code (after b.stand code a) a.note)
+    (refused_line place a.refusal)
 
-unfoldable pub eventScene : Scene → ℕ → Scene
-eventScene b code = answeredScene b code (event replaySerial b.array b.stand.chip code)
+unfoldable pub event_scene : Scene → ℕ → Scene
+event_scene b code = answered_scene b code (event replay_serial b.array b.stand.chip code)
 
-unfoldable pub eventText : Scene → ℕ → ℕ → List ℕ
-eventText b place code = answeredText b place code (event replaySerial b.array b.stand.chip code)
+unfoldable pub event_text : Scene → ℕ → ℕ → List ℕ
+event_text b place code = answered_text b place code (event replay_serial b.array b.stand.chip code)
 
 -- ---- events in their order, each where none before it was refused
 
-abbrev pub eventsScene : Scene → List ℕ → Scene
-eventsScene b [] = b
-eventsScene b (code ∷ codes) = eventsScene (cond (runsOn b) (eventScene b code) b) codes
+abbrev pub events_scene : Scene → List ℕ → Scene
+events_scene b [] = b
+events_scene b (code ∷ codes) = events_scene (cond (runs_on b) (event_scene b code) b) codes
 
-abbrev pub eventsText : Scene → ℕ → List ℕ → List ℕ
-eventsText b place [] = []
-eventsText b place (code ∷ codes) =
-    cond (runsOn b) (eventText b place code) [] ++ eventsText (cond (runsOn b) (eventScene b code) b) place codes
+abbrev pub events_text : Scene → ℕ → List ℕ → List ℕ
+events_text b place [] = []
+events_text b place (code ∷ codes) =
+    cond (runs_on b) (event_text b place code) [] ++ events_text (cond (runs_on b) (event_scene b code) b) place codes
 
 -- ---- a run of pulses: the same run as the replay's, told in one line, with what is plain from before and after it
 
-abbrev pub benchIn : Scene → Bench
-benchIn b = record { refusal = b.refusal; stand = b.stand; array = b.array; shown = replicate mostShown 0; text = [] }
+abbrev pub bench_in : Scene → Bench
+bench_in b = record { refusal = b.refusal; stand = b.stand; array = b.array; shown = replicate most_shown 0; text = [] }
 
-abbrev pub sceneIn : Bench → Scene
-sceneIn b = record { refusal = b.refusal; stand = b.stand; array = b.array }
+abbrev pub scene_in : Bench → Scene
+scene_in b = record { refusal = b.refusal; stand = b.stand; array = b.array }
 
-unfoldable pub runScene : Scene → ℕ → Scene
-runScene b pulses = sceneIn (pulsed pulses (benchIn b))
+unfoldable pub run_scene : Scene → ℕ → Scene
+run_scene b pulses = scene_in (pulsed pulses (bench_in b))
 
-unfoldable pub pulsesText : ℕ → ℕ → Stand → Stand → List ℕ
-pulsesText place pulses before after =
-    runLine place pulses before.told after.told ++ changes place before after ++ turned place before.chip after.chip
+unfoldable pub pulses_text : ℕ → ℕ → Stand → Stand → List ℕ
+pulses_text place pulses before after =
+    run_line place pulses before.told after.told ++ changes place before after ++ turned place before.chip after.chip
 
-unfoldable pub runText : Scene → ℕ → ℕ → List ℕ
-runText b place pulses = pulsesText place pulses b.stand (runScene b pulses).stand
+unfoldable pub run_text : Scene → ℕ → ℕ → List ℕ
+run_text b place pulses = pulses_text place pulses b.stand (run_scene b pulses).stand
 
 -- ---- an item
 
-unfoldable pub itemScene : Scene → ℕ → Scene
-itemScene b item = cond (ltb lastByte item) (runScene b (item - lastByte)) (eventsScene b (shortEvents item))
+unfoldable pub item_scene : Scene → ℕ → Scene
+item_scene b item = cond (ltb last_byte item) (run_scene b (item - last_byte)) (events_scene b (short_events item))
 
-unfoldable pub itemText : Scene → ℕ → ℕ → List ℕ
-itemText b place item =
-    cond (ltb lastByte item) (runText b place (item - lastByte)) (eventsText b place (shortEvents item))
+unfoldable pub item_text : Scene → ℕ → ℕ → List ℕ
+item_text b place item =
+    cond (ltb last_byte item) (run_text b place (item - last_byte)) (events_text b place (short_events item))

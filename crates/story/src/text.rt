@@ -1,7 +1,7 @@
 // The story of a trace, as text in a lent slice.
 ghost use Rattle.turns.specs.Page.{page_of};
 ghost use Rattle.words.specs.Prints.{Prints};
-ghost use Rattle.story.specs.Story.{story, notPowered, fromPower, poweredText};
+ghost use Rattle.story.specs.Story.{story, not_powered, from_power, powered_text};
 
 use crate::told::{tell_end, tell_items};
 use bench::head::{Head, head_of};
@@ -15,7 +15,7 @@ use words::page::print;
 
 // A trace that does not come to power-up.
 fn print_not_powered(out: &mut [u8], row: u8) -> usize
-    ensures { Prints (page_of out.old 0) (notPowered row) (page_of out.new result) }
+    ensures { Prints (page_of out.old 0) (not_powered row) (page_of out.new result) }
 {
     let next = print_refused(out, 0, 0, row);
     print(out, next, b"end: no power-up\n")
@@ -23,7 +23,7 @@ fn print_not_powered(out: &mut [u8], row: u8) -> usize
 
 // From an accepted power-up on.
 fn tell_powered(trace: &[u8], lead: Head, chip: State, array: &mut [u8], out: &mut [u8]) -> usize
-    ensures { Prints (page_of out.old 0) (fromPower trace.now lead chip array.old)
+    ensures { Prints (page_of out.old 0) (from_power trace.now lead chip array.old)
         (page_of out.new result) }
 {
     let size = figure_of(lead.part).size;
@@ -41,7 +41,7 @@ fn tell_powered(trace: &[u8], lead: Head, chip: State, array: &mut [u8], out: &m
 
 // From power-up on, with an array of the part's size.
 fn tell_power(trace: &[u8], lead: Head, array: &mut [u8], out: &mut [u8]) -> usize
-    ensures { Prints (page_of out.old 0) (poweredText trace.now lead array.old)
+    ensures { Prints (page_of out.old 0) (powered_text trace.now lead array.old)
         (page_of out.new result) }
 {
     fill(lead.part, array);

@@ -1,10 +1,10 @@
 // What is told of an event, of an item and of all items, while the bench takes them.
 ghost use Rattle.std.specs.Prelude.{◌≡◌};
-ghost use Rattle.trace.specs.Items.{shortEvents};
+ghost use Rattle.trace.specs.Items.{short_events};
 ghost use Rattle.turns.specs.Page.{page_of, printed};
 ghost use Rattle.words.specs.Prints.{Prints};
-ghost use Rattle.story.specs.Scene.{scene_of, acceptedText, eventScene, eventText, eventsScene, eventsText, runScene, pulsesText, runText, itemScene, itemText};
-ghost use Rattle.story.specs.Story.{leftOpen, endText, leftText};
+ghost use Rattle.story.specs.Scene.{scene_of, accepted_text, event_scene, event_text, events_scene, events_text, run_scene, pulses_text, run_text, item_scene, item_text};
+ghost use Rattle.story.specs.Story.{left_open, end_text, left_text};
 
 use chip::event::event;
 use pins::watch::is_open;
@@ -30,7 +30,7 @@ fn tell_accepted(
     after: Stand,
     note: Note,
 ) -> usize
-    ensures { Prints (page_of out.old at) (acceptedText place before code after note) (page_of out.new result) }
+    ensures { Prints (page_of out.old at) (accepted_text place before code after note) (page_of out.new result) }
 {
     let shown = sampled_by(before, code);
     let next = tell_changes(out, at, place, before, after);
@@ -40,8 +40,8 @@ fn tell_accepted(
 
 // One event.
 fn tell_event(turn: Turn, array: &mut [u8], out: &mut [u8], place: usize, code: u64) -> Turn
-    ensures array_after { scene_of result array.new ≡ eventScene (scene_of turn array.old) code }
-    ensures prints { Prints (page_of out.old turn.at) (eventText (scene_of turn array.old) place code)
+    ensures array_after { scene_of result array.new ≡ event_scene (scene_of turn array.old) code }
+    ensures prints { Prints (page_of out.old turn.at) (event_text (scene_of turn array.old) place code)
         (page_of out.new result.at) }
 {
     let stand = turn.stand;
@@ -68,8 +68,8 @@ fn tell_event(turn: Turn, array: &mut [u8], out: &mut [u8], place: usize, code: 
 
 // An event or a data byte: its events, up to the first that is refused.
 fn tell_short(turn: Turn, array: &mut [u8], out: &mut [u8], place: usize, item: u64) -> Turn
-    ensures array_after { scene_of result array.new ≡ eventsScene (scene_of turn array.old) (shortEvents item) }
-    ensures prints { Prints (page_of out.old turn.at) (eventsText (scene_of turn array.old) place (shortEvents item))
+    ensures array_after { scene_of result array.new ≡ events_scene (scene_of turn array.old) (short_events item) }
+    ensures prints { Prints (page_of out.old turn.at) (events_text (scene_of turn array.old) place (short_events item))
         (page_of out.new result.at) }
 {
     let events = events_of(item);
@@ -94,7 +94,7 @@ fn tell_pulses(
     before: Stand,
     after: Stand,
 ) -> usize
-    ensures { Prints (page_of out.old at) (pulsesText place pulses before after) (page_of out.new result) }
+    ensures { Prints (page_of out.old at) (pulses_text place pulses before after) (page_of out.new result) }
 {
     let told = before.told;
     let telling = after.told;
@@ -107,8 +107,8 @@ fn tell_pulses(
 
 // A run of pulses, by sums. The report's lines are put where nobody reads them.
 fn tell_run(turn: Turn, array: &mut [u8], out: &mut [u8], place: usize, pulses: u64) -> Turn
-    ensures array_after { scene_of result array.new ≡ runScene (scene_of turn array.old) pulses }
-    ensures prints { Prints (page_of out.old turn.at) (runText (scene_of turn array.old) place pulses)
+    ensures array_after { scene_of result array.new ≡ run_scene (scene_of turn array.old) pulses }
+    ensures prints { Prints (page_of out.old turn.at) (run_text (scene_of turn array.old) place pulses)
         (page_of out.new result.at) }
 {
     let before = turn.stand;
@@ -126,8 +126,8 @@ fn tell_run(turn: Turn, array: &mut [u8], out: &mut [u8], place: usize, pulses: 
 
 // One item.
 fn tell_item(turn: Turn, array: &mut [u8], out: &mut [u8], place: usize, item: u64) -> Turn
-    ensures array_after { scene_of result array.new ≡ itemScene (scene_of turn array.old) item }
-    ensures prints { Prints (page_of out.old turn.at) (itemText (scene_of turn array.old) place item)
+    ensures array_after { scene_of result array.new ≡ item_scene (scene_of turn array.old) item }
+    ensures prints { Prints (page_of out.old turn.at) (item_text (scene_of turn array.old) place item)
         (page_of out.new result.at) }
 {
     let pulses = pulses_of(item);
@@ -145,8 +145,8 @@ pub(crate) fn tell_items(
     array: &mut [u8],
     out: &mut [u8],
 ) -> Turn
-    ensures { printed (page_of out.new result.at) (endText result.stand array.new)
-        ≡ printed (page_of out.old turn.at) (leftText trace.now at (scene_of turn array.old)) }
+    ensures { printed (page_of out.new result.at) (end_text result.stand array.new)
+        ≡ printed (page_of out.old turn.at) (left_text trace.now at (scene_of turn array.old)) }
 {
     let mut turn = turn;
     let mut place = at;
@@ -170,7 +170,7 @@ pub(crate) fn tell_items(
 
 // A select that is open at the end.
 fn tell_left(out: &mut [u8], at: usize, stand: Stand) -> usize
-    ensures { Prints (page_of out.old at) (leftOpen stand) (page_of out.new result) }
+    ensures { Prints (page_of out.old at) (left_open stand) (page_of out.new result) }
 {
     let chip = stand.chip;
     if is_open(chip) {
@@ -181,7 +181,7 @@ fn tell_left(out: &mut [u8], at: usize, stand: Stand) -> usize
 
 // The end: a select that is open, kept bits, the latch, and the array.
 pub(crate) fn tell_end(out: &mut [u8], at: usize, stand: Stand, array: &[u8]) -> usize
-    ensures { Prints (page_of out.old at) (endText stand array.now) (page_of out.new result) }
+    ensures { Prints (page_of out.old at) (end_text stand array.now) (page_of out.new result) }
 {
     let chip = stand.chip;
     let next = tell_left(out, at, stand);

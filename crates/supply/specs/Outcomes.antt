@@ -1,16 +1,16 @@
 -- Two outcomes that both satisfy a public call's promise are the same. Assumes nothing.
 use Rattle.std.specs.Prelude.{ℕ, ◌≡◌, List}
 use Rattle.laws.specs.TestLaws.{sole}
-use Rattle.supply.specs.Power.{powerUp}
+use Rattle.supply.specs.Power.{power_up}
 use Rattle.supply.specs.Promises.{FillPromise}
 use Rattle.supply.specs.declared.power.Powered.{Powered}
 
 module _ (part kept : ℕ) (xs : List ℕ) where
-  pub power-up-sole : (a b : Powered) → a ≡ powerUp part kept xs → b ≡ powerUp part kept xs → a ≡ b
-  power-up-sole a b = sole
+  pub power_up_sole : (a b : Powered) → a ≡ power_up part kept xs → b ≡ power_up part kept xs → a ≡ b
+  power_up_sole a b = sole
 
-  pub fill-sole : (byte a b : ℕ) (ys zs : List ℕ)
+  pub fill_sole : (byte a b : ℕ) (ys zs : List ℕ)
       → FillPromise part byte xs a ys
       → FillPromise part byte xs b zs
       → (a ≡ b) × (ys ≡ zs)
-  fill-sole byte a b ys zs p q = (sole p.0 q.0, sole p.1 q.1)
+  fill_sole byte a b ys zs p q = (sole p.0 q.0, sole p.1 q.1)

@@ -1,6 +1,6 @@
 // Power-up, and a fresh array.
 ghost use Rattle.std.specs.Prelude.{◌≡◌, length, replicate};
-ghost use Rattle.supply.specs.Power.{powerRefusal, powerUp, fillRefusal, fresh};
+ghost use Rattle.supply.specs.Power.{power_refusal, power_up, fill_refusal, fresh};
 ghost use Rattle.supply.specs.Promises.{FillPromise};
 
 use parts::figures::{figure_of, fits_part, is_part};
@@ -16,7 +16,7 @@ pub struct Powered {
 }
 
 fn fill_refusal(part: u64, len: usize) -> u8
-    ensures { result ≡ fillRefusal part len }
+    ensures { result ≡ fill_refusal part len }
 {
     if !is_part(part) {
         return 1;
@@ -28,7 +28,7 @@ fn fill_refusal(part: u64, len: usize) -> u8
 }
 
 fn power_refusal(part: u64, kept: u64, len: usize) -> u8
-    ensures { result ≡ powerRefusal part kept len }
+    ensures { result ≡ power_refusal part kept len }
 {
     let refusal = fill_refusal(part, len);
     if refusal != 0 {
@@ -43,7 +43,7 @@ fn power_refusal(part: u64, kept: u64, len: usize) -> u8
 
 // Power-up of a part with its kept bits, over the array that is lent to it.
 pub fn power_up(part: u64, kept: u64, array: &[u8]) -> Powered
-    ensures { result ≡ powerUp part kept array.now }
+    ensures { result ≡ power_up part kept array.now }
 {
     let refusal = power_refusal(part, kept, array.len());
     if refusal != 0 {

@@ -8,20 +8,20 @@ use lib.Dec.{lit<, lit≤}
 use lib.Bits.{bit_and, bit_or, and_mask, or_shifted, or_shifted_r}
 
 -- `x & 0x7F`
-pub low-group : (x : ℕ) → bit_and x 127 ≡ x % 128
-low-group x = and_mask x 7
+pub low_group : (x : ℕ) → bit_and x 127 ≡ x % 128
+low_group x = and_mask x 7
 
 -- `x & 0x7F | 0x80`
-pub goes_on : (x : ℕ) → bit_or (bit_and x 127) 128 ≡ 128 + x % 128
-goes_on x = rw (low-group x) (or_shifted_r 1 7 (x % 128) (omega arith))
+pub goes_on_lem : (x : ℕ) → bit_or (bit_and x 127) 128 ≡ 128 + x % 128
+goes_on_lem x = rw (low_group x) (or_shifted_r 1 7 (x % 128) (omega arith))
 
 -- `n << 7 | x & 0x7F`, where the shift loses nothing
 pub joined : (n x : ℕ) → n < 2 ^ 57 → bit_or (n * 2 ^ 7 % 2 ^ 64) (bit_and x 127) ≡ x % 128 + 128 * n
-joined n x h = rw (low-group x, mod-eq_of_lt (small n h)) (or_shifted n 7 (x % 128) (omega arith) ∙ omega arith)
+joined n x h = rw (low_group x, mod-eq_of_lt (small n h)) (or_shifted n 7 (x % 128) (omega arith) ∙ omega arith)
   where
     small : (n : ℕ) → n < 2 ^ 57 → n * 2 ^ 7 < 2 ^ 64
     small n h = omega arith
 
 -- eight groups are 56 bits
-pub eight-groups : (k n : ℕ) → k ≤ 8 → n < 128 ^ k → n < 2 ^ 57
-eight-groups k n p h = lt_of_lt_of_le h (le_trans (pow-le-pow_right (lit< tt) p) (lit≤ tt))
+pub eight_groups : (k n : ℕ) → k ≤ 8 → n < 128 ^ k → n < 2 ^ 57
+eight_groups k n p h = lt_of_lt_of_le h (le_trans (pow-le-pow_right (lit< tt) p) (lit≤ tt))

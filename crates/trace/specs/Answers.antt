@@ -18,8 +18,8 @@ pub record Told : Type 0 where
   pub place : ℕ
 
 -- "An accepted read gives the number and the place after it"
-abbrev pub numberRead : ℕ → ℕ → Told
-numberRead n next = record { refusal = 0; value = num n; place = next }
+abbrev pub number_read : ℕ → ℕ → Told
+number_read n next = record { refusal = 0; value = num n; place = next }
 
 -- "Reading at the slice's very end answers "end"." The place is the end's own.
 abbrev pub ended : ℕ → Told
@@ -30,8 +30,8 @@ abbrev pub placed : ℕ → Told
 placed next = record { refusal = 0; value = num 0; place = next }
 
 -- "A refused read or write returns its number, the value 0 and the place given."
-abbrev pub refusedAt : ℕ → ℕ → Told
-refusedAt row at = record { refusal = row; value = num 0; place = at }
+abbrev pub refused_at : ℕ → ℕ → Told
+refused_at row at = record { refusal = row; value = num 0; place = at }
 
 -- the rows of "Refusals and their order"
 abbrev pub number_of : Refusal → ℕ
@@ -44,11 +44,11 @@ number_of Beyond = 10
 -- 11 "no room to write the number"
 number_of NoRoom = 11
 
-abbrev pub readTold : Read → Told
-readTold (read.Number n next) = numberRead n next
-readTold (read.End at) = ended at
-readTold (read.Refused why at) = refusedAt (number_of why) at
+abbrev pub read_told : Read → Told
+read_told (read.Number n next) = number_read n next
+read_told (read.End at) = ended at
+read_told (read.Refused why at) = refused_at (number_of why) at
 
-abbrev pub writtenTold : Written → Told
-writtenTold (written.Placed next) = placed next
-writtenTold (written.Refused why at) = refusedAt (number_of why) at
+abbrev pub written_told : Written → Told
+written_told (written.Placed next) = placed next
+written_told (written.Refused why at) = refused_at (number_of why) at

@@ -17,24 +17,24 @@ below a b = go (leb b a) (leb→le b a) (nleb→lt b a)
 pub bytes_one : (b : ℕ) (xs : List ℕ) → b < 128 → bytes (b ∷ xs) ≡ b ∷ []
 bytes_one b xs h = simp (lt-leb 128 b h)
 
-pub bytes-more : (b : ℕ) (xs : List ℕ) → 128 ≤ b → bytes (b ∷ xs) ≡ b ∷ bytes xs
-bytes-more b xs h = simp (le-leb 128 b h)
+pub bytes_more : (b : ℕ) (xs : List ℕ) → 128 ≤ b → bytes (b ∷ xs) ≡ b ∷ bytes xs
+bytes_more b xs h = simp (le-leb 128 b h)
 
-pub bytes-within : (xs : List ℕ) → length (bytes xs) ≤ length xs
-bytes-within [] = omega arith
-bytes-within (b ∷ xs) =
-    let q = bytes-within xs in
-    ⊎_elim (λ h. omega (arith, ap length (bytes_one b xs h))) (λ h. omega (arith, ap length (bytes-more b xs h))) (below b 128)
+pub bytes_within : (xs : List ℕ) → length (bytes xs) ≤ length xs
+bytes_within [] = omega arith
+bytes_within (b ∷ xs) =
+    let q = bytes_within xs in
+    ⊎_elim (λ h. omega (arith, ap length (bytes_one b xs h))) (λ h. omega (arith, ap length (bytes_more b xs h))) (below b 128)
 
-pub bytes-first : (xs : List ℕ) → take (length (bytes xs)) xs ≡ bytes xs
-bytes-first [] = refl
-bytes-first (b ∷ xs) = ⊎_elim (λ h. simp (lt-leb 128 b h)) (λ h. simp (le-leb 128 b h, bytes-first xs)) (below b 128)
+pub bytes_first : (xs : List ℕ) → take (length (bytes xs)) xs ≡ bytes xs
+bytes_first [] = refl
+bytes_first (b ∷ xs) = ⊎_elim (λ h. simp (lt-leb 128 b h)) (λ h. simp (le-leb 128 b h, bytes_first xs)) (below b 128)
 
-pub low-bytes : (xs : List ℕ) → ((i : ℕ) → get_or xs i 0 < 256) → (i : ℕ) → get_or (bytes xs) i 0 < 256
-low-bytes [] byte i = byte i
-low-bytes (b ∷ xs) byte i =
+pub low_bytes : (xs : List ℕ) → ((i : ℕ) → get_or xs i 0 < 256) → (i : ℕ) → get_or (bytes xs) i 0 < 256
+low_bytes [] byte i = byte i
+low_bytes (b ∷ xs) byte i =
     ⊎_elim (λ h. subst⁻¹ (λ (l : List ℕ). get_or l i 0 < 256) (bytes_one b xs h) (then [] (λ j. omega arith) i))
-    (λ h. subst⁻¹ (λ (l : List ℕ). get_or l i 0 < 256) (bytes-more b xs h) (then (bytes xs) (low-bytes xs (λ j. byte (suc j))) i))
+    (λ h. subst⁻¹ (λ (l : List ℕ). get_or l i 0 < 256) (bytes_more b xs h) (then (bytes xs) (low_bytes xs (λ j. byte (suc j))) i))
     (below b 128)
   where
     then : (l : List ℕ) → ((j : ℕ) → get_or l j 0 < 256) → (i : ℕ) → get_or (b ∷ l) i 0 < 256

@@ -9,12 +9,12 @@ abbrev pub largest : ℕ
 largest = 268435455
 
 -- "0 to 11 is an event; 12 to 267 is a data byte": the first and the last that is one
-abbrev pub firstByte : ℕ
-firstByte = 12
+abbrev pub first_byte : ℕ
+first_byte = 12
 
-abbrev pub lastByte : ℕ
-lastByte = 267
+abbrev pub last_byte : ℕ
+last_byte = 267
 
 -- "eight times SI, SCK up, SCK down": the events of a data byte
-abbrev pub byteEvents : ℕ
-byteEvents = 24
+abbrev pub byte_events : ℕ
+byte_events = 24

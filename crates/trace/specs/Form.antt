@@ -7,13 +7,13 @@ use Rattle.trace.specs.declared.number.Shape.{Shape}
 use Rattle.trace.specs.declared.number.Shape.TheVariants.{Whole, Misshapen}
 
 -- "the top bit set": a byte that is not its number's last
-abbrev pub goesOn : ℕ → Bool
-goesOn b = leb 128 b
+abbrev pub goes_on : ℕ → Bool
+goes_on b = leb 128 b
 
 -- the bytes of the number that a list begins with: "the top bit set on every byte but a number's last"
 abbrev pub bytes : List ℕ → List ℕ
 bytes [] = []
-bytes (b ∷ bs) = b ∷ cond (goesOn b) (bytes bs) []
+bytes (b ∷ bs) = b ∷ cond (goes_on b) (bytes bs) []
 
 -- "groups of seven bits, low group first"
 abbrev pub value : List ℕ → ℕ
@@ -21,13 +21,13 @@ value [] = 0
 value (b ∷ bs) = b % 128 + 128 * value bs
 
 -- "cut off": no byte is its number's last
-abbrev pub cutOff : List ℕ → Bool
-cutOff [] = true
-cutOff (b ∷ bs) = goesOn b && cutOff bs
+abbrev pub cut_off : List ℕ → Bool
+cut_off [] = true
+cut_off (b ∷ bs) = goes_on b && cut_off bs
 
 -- "over four bytes", for a number of bytes that stands in Figures
-abbrev pub tooMany : ℕ → List ℕ → Bool
-tooMany most bs = ltb most (length bs)
+abbrev pub too_many : ℕ → List ℕ → Bool
+too_many most bs = ltb most (length bs)
 
 abbrev pub last : List ℕ → ℕ
 last [] = 0
@@ -35,12 +35,12 @@ last (b ∷ []) = b
 last (b ∷ c ∷ bs) = last (c ∷ bs)
 
 -- "not shortest": the last of several groups is 0, and the value is the same without it
-abbrev pub notShortest : List ℕ → Bool
-notShortest bs = ltb 1 (length bs) && eqb (last bs) 0
+abbrev pub not_shortest : List ℕ → Bool
+not_shortest bs = ltb 1 (length bs) && eqb (last bs) 0
 
 -- 8 "trace number cut off, over two bytes, or not shortest"; "8 now speaks of over four bytes"
 abbrev pub misshapen : ℕ → List ℕ → Bool
-misshapen most bs = cutOff bs || (tooMany most bs || notShortest bs)
+misshapen most bs = cut_off bs || (too_many most bs || not_shortest bs)
 
 -- the groups of n: its low group with the top bit set, and then the others, where one group does not hold it. The first number bounds the recursion.
 abbrev pub spelt : ℕ → ℕ → List ℕ

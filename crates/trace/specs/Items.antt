@@ -1,7 +1,7 @@
 -- The items of a trace as events, a data byte as the events that clock it in (document 01, "Trace numbers"). Assumes nothing.
 use Rattle.std.specs.Prelude.{ℕ, zero, suc, ◌+◌, ◌-◌, cond, List, [], ◌∷◌, ◌++◌, ltb}
 use Rattle.laws.specs.Bits.{bit_at}
-use Rattle.trace.specs.Figures.{firstByte, lastByte}
+use Rattle.trace.specs.Figures.{first_byte, last_byte}
 
 -- "SI, SCK up, SCK down": event 4 or 5 by the bit, then 3, then 2
 abbrev pub pulse : ℕ → List ℕ
@@ -17,14 +17,14 @@ unfoldable pub clocked : ℕ → List ℕ
 clocked byte = pulses 8 byte
 
 -- "0 to 11 is an event; 12 to 267 is a data byte, the number less 12"
-abbrev pub shortEvents : ℕ → List ℕ
-shortEvents n = cond (ltb n firstByte) (n ∷ []) (clocked (n - firstByte))
+abbrev pub short_events : ℕ → List ℕ
+short_events n = cond (ltb n first_byte) (n ∷ []) (clocked (n - first_byte))
 
 -- so many "pulses of SCK, up then down, SI untouched" (document 02, Wish 7)
-abbrev pub runEvents : ℕ → List ℕ
-runEvents zero = []
-runEvents (suc n) = 3 ∷ 2 ∷ runEvents n
+abbrev pub run_events : ℕ → List ℕ
+run_events zero = []
+run_events (suc n) = 3 ∷ 2 ∷ run_events n
 
 -- "An item from 268 up now means the number less 267 pulses of SCK"
-unfoldable pub itemEvents : ℕ → List ℕ
-itemEvents n = cond (ltb lastByte n) (runEvents (n - lastByte)) (shortEvents n)
+unfoldable pub item_events : ℕ → List ℕ
+item_events n = cond (ltb last_byte n) (run_events (n - last_byte)) (short_events n)

@@ -7,8 +7,8 @@ use Rattle.std.proofs.Math.Bool.{and-false, or-true}
 use Rattle.std.proofs.Math.Nat.{pow-succ'}
 use Rattle.std.proofs.lemmas.Bool.{lt-leb}
 use Rattle.std.proofs.Math.Dec.{leb-suc-suc}
-use Rattle.trace.specs.ByteLaws.{below, bytes_one, bytes-more}
-use Rattle.trace.specs.Form.{goesOn, bytes, value, cutOff, last, notShortest, misshapen, spelt, form}
+use Rattle.trace.specs.ByteLaws.{below, bytes_one, bytes_more}
+use Rattle.trace.specs.Form.{goes_on, bytes, value, cut_off, last, not_shortest, misshapen, spelt, form}
 
 -- `Spells bs n k`: bs are the groups of n, the low one first, at most k of them, and the last of several is not 0
 pub data Spells : List ℕ → ℕ → ℕ → Type 0 where
@@ -17,7 +17,7 @@ pub data Spells : List ℕ → ℕ → ℕ → Type 0 where
 
 -- ---- what is spelt is well shaped
 
-whole : {bs : List ℕ} {n k : ℕ} → Spells bs n k → cutOff bs ≡ false
+whole : {bs : List ℕ} {n k : ℕ} → Spells bs n k → cut_off bs ≡ false
 whole (one h) = simp (lt-leb _ _ h)
 whole (more h p s) = simp (le-leb _ _ h, whole s)
 
@@ -33,21 +33,21 @@ last_of : {bs : List ℕ} {n k : ℕ} (b : ℕ) → Spells bs n k → last (b �
 last_of b (one h) = refl
 last_of b (more h p s) = refl
 
-last-zero : {bs : List ℕ} {n k : ℕ} → Spells bs n k → eqb (last bs) 0 ≡ eqb n 0
-last-zero (one h) = refl
-last-zero (more {b = b} {n = n} h p s) =
-    rw (last_of b s) (last-zero s ∙ ne_eqb n 0 (omega arith) ∙ sym (ne_eqb (b % 128 + 128 * n) 0 (omega arith)))
+last_zero : {bs : List ℕ} {n k : ℕ} → Spells bs n k → eqb (last bs) 0 ≡ eqb n 0
+last_zero (one h) = refl
+last_zero (more {b = b} {n = n} h p s) =
+    rw (last_of b s) (last_zero s ∙ ne_eqb n 0 (omega arith) ∙ sym (ne_eqb (b % 128 + 128 * n) 0 (omega arith)))
 
-shortest : {bs : List ℕ} {n k : ℕ} → Spells bs n k → notShortest bs ≡ false
+shortest : {bs : List ℕ} {n k : ℕ} → Spells bs n k → not_shortest bs ≡ false
 shortest (one h) = refl
-shortest (more {b = b} {n = n} h p s) = simp (last_of b s, last-zero s, ne_eqb n 0 (omega arith), and-false)
+shortest (more {b = b} {n = n} h p s) = simp (last_of b s, last_zero s, ne_eqb n 0 (omega arith), and-false)
 
-pub well-shaped : {bs : List ℕ} {n k : ℕ} → Spells bs n k → misshapen k bs ≡ false
-well-shaped s = simp (whole s, le-ltb _ _ (few s), shortest s)
+pub well_shaped : {bs : List ℕ} {n k : ℕ} → Spells bs n k → misshapen k bs ≡ false
+well_shaped s = simp (whole s, le-ltb _ _ (few s), shortest s)
 
-pub spelt-value : {bs : List ℕ} {n k : ℕ} → Spells bs n k → value bs ≡ n
-spelt-value (one h) = omega arith
-spelt-value (more h p s) = rw (spelt-value s)
+pub spelt_value : {bs : List ℕ} {n k : ℕ} → Spells bs n k → value bs ≡ n
+spelt_value (one h) = omega arith
+spelt_value (more h p s) = rw (spelt_value s)
 
 -- ---- a byte with the top bit set, before bytes that are misshapen, or that spell n
 
@@ -58,14 +58,14 @@ kept false false true l h = h
 kept false false false true h = refl
 kept false false false false h = h
 
-pub misshapen-more : (b k : ℕ) (bs : List ℕ) → 128 ≤ b → misshapen k bs ≡ true → misshapen (suc k) (b ∷ bs) ≡ true
-misshapen-more b k [] h m = simp (le-leb 128 b h)
-misshapen-more b k (c ∷ bs) h m =
-    simp (le-leb 128 b h, leb-suc-suc (suc k) (suc (length bs)), le-leb 2 (suc (suc (length bs))) (omega arith)) (kept (cutOff (c ∷ bs)) (ltb k (length (c ∷ bs))) (ltb 1 (length (c ∷ bs))) (eqb (last (c ∷ bs)) 0) m)
+pub misshapen_more : (b k : ℕ) (bs : List ℕ) → 128 ≤ b → misshapen k bs ≡ true → misshapen (suc k) (b ∷ bs) ≡ true
+misshapen_more b k [] h m = simp (le-leb 128 b h)
+misshapen_more b k (c ∷ bs) h m =
+    simp (le-leb 128 b h, leb-suc-suc (suc k) (suc (length bs)), le-leb 2 (suc (suc (length bs))) (omega arith)) (kept (cut_off (c ∷ bs)) (ltb k (length (c ∷ bs))) (ltb 1 (length (c ∷ bs))) (eqb (last (c ∷ bs)) 0) m)
 
-pub misshapen-zero : {bs : List ℕ} {n k : ℕ} (b : ℕ) → 128 ≤ b → Spells bs n k → misshapen (suc k) (b ∷ bs) ≡ eqb n 0
-misshapen-zero {bs} {n} {k} b h s =
-    simp (le-leb 128 b h, whole s, le-ltb (suc k) (suc (length bs)) (let q = few s in omega arith), lt-ltb 1 (suc (length bs)) (let q = some_bytes s in omega arith), last_of b s, last-zero s)
+pub misshapen_zero : {bs : List ℕ} {n k : ℕ} (b : ℕ) → 128 ≤ b → Spells bs n k → misshapen (suc k) (b ∷ bs) ≡ eqb n 0
+misshapen_zero {bs} {n} {k} b h s =
+    simp (le-leb 128 b h, whole s, le-ltb (suc k) (suc (length bs)) (let q = few s in omega arith), lt-ltb 1 (suc (length bs)) (let q = some_bytes s in omega arith), last_of b s, last_zero s)
 
 -- ---- the bytes that a list begins with are misshapen, or spell their value
 
@@ -74,47 +74,47 @@ Shaped k bs = (misshapen k bs ≡ true) ⊎ Spells bs (value bs) k
 
 pub shaped : (k : ℕ) (xs : List ℕ) → Shaped k (bytes xs)
 shaped k [] = inl refl
-shaped zero (b ∷ xs) = inl (simp (lt-ltb 0 (suc (length (cond (goesOn b) (bytes xs) []))) (omega arith), or-true))
+shaped zero (b ∷ xs) = inl (simp (lt-ltb 0 (suc (length (cond (goes_on b) (bytes xs) []))) (omega arith), or-true))
 shaped (suc k) (b ∷ xs) =
     ⊎_elim (λ h. subst⁻¹ (Shaped (suc k)) (bytes_one b xs h) (inr (subst (λ (n : ℕ). Spells (b ∷ []) n (suc k)) (omega arith) (one h))))
-    (λ h. subst⁻¹ (Shaped (suc k)) (bytes-more b xs h) (⊎_elim (λ m. inl (misshapen-more b k (bytes xs) h m)) (next h) (shaped k xs)))
+    (λ h. subst⁻¹ (Shaped (suc k)) (bytes_more b xs h) (⊎_elim (λ m. inl (misshapen_more b k (bytes xs) h m)) (next h) (shaped k xs)))
     (below b 128)
   where
     next : 128 ≤ b → Spells (bytes xs) (value (bytes xs)) k → Shaped (suc k) (b ∷ bytes xs)
-    next h s = ⊎_elim (λ z. inl (misshapen-zero b h s ∙ eq-eqb (value (bytes xs)) 0 z)) (λ p. inr (more h p s)) (eq-zero-or-pos (value (bytes xs)))
+    next h s = ⊎_elim (λ z. inl (misshapen_zero b h s ∙ eq-eqb (value (bytes xs)) 0 z)) (λ p. inr (more h p s)) (eq-zero-or-pos (value (bytes xs)))
 
 -- ---- reading stops at its end, whatever follows
 
-pub spelt-alone : {bs : List ℕ} {n k : ℕ} (ys : List ℕ) → Spells bs n k → bytes (bs ++ ys) ≡ bs
-spelt-alone ys (one h) = simp (lt-leb _ _ h)
-spelt-alone ys (more h p s) = simp (le-leb _ _ h, spelt-alone ys s)
+pub spelt_alone : {bs : List ℕ} {n k : ℕ} (ys : List ℕ) → Spells bs n k → bytes (bs ++ ys) ≡ bs
+spelt_alone ys (one h) = simp (lt-leb _ _ h)
+spelt_alone ys (more h p s) = simp (le-leb _ _ h, spelt_alone ys s)
 
 -- ---- the form of a number spells it
 
-spelt-enough : (k j n : ℕ) → n ≤ k → n ≤ j → spelt k n ≡ spelt j n
-spelt-enough zero zero n p q = refl
-spelt-enough zero (suc j) n p q = simp (lt-ltb n 128 (omega arith))
-spelt-enough (suc k) zero n p q = simp (lt-ltb n 128 (omega arith))
-spelt-enough (suc k) (suc j) n p q =
-    ⊎_elim (λ h. simp (lt-ltb n 128 h)) (λ h. simp (le-ltb n 128 h, spelt-enough k j (n / 128) (omega arith) (omega arith))) (below n 128)
+spelt_enough : (k j n : ℕ) → n ≤ k → n ≤ j → spelt k n ≡ spelt j n
+spelt_enough zero zero n p q = refl
+spelt_enough zero (suc j) n p q = simp (lt-ltb n 128 (omega arith))
+spelt_enough (suc k) zero n p q = simp (lt-ltb n 128 (omega arith))
+spelt_enough (suc k) (suc j) n p q =
+    ⊎_elim (λ h. simp (lt-ltb n 128 h)) (λ h. simp (le-ltb n 128 h, spelt_enough k j (n / 128) (omega arith) (omega arith))) (below n 128)
 
-pub form-one : (n : ℕ) → n < 128 → form n ≡ n ∷ []
+pub form_one : (n : ℕ) → n < 128 → form n ≡ n ∷ []
 unfolding form
-form-one zero h = refl
-form-one (suc n) h = simp (lt-ltb (suc n) 128 h)
+form_one zero h = refl
+form_one (suc n) h = simp (lt-ltb (suc n) 128 h)
 
-pub form-more : (n : ℕ) → 128 ≤ n → form n ≡ (128 + n % 128) ∷ form (n / 128)
+pub form_more : (n : ℕ) → 128 ≤ n → form n ≡ (128 + n % 128) ∷ form (n / 128)
 unfolding form
-form-more zero h = absurd (omega arith)
-form-more (suc n) h = simp (le-ltb (suc n) 128 h, spelt-enough n (suc n / 128) (suc n / 128) (omega arith) (omega arith))
+form_more zero h = absurd (omega arith)
+form_more (suc n) h = simp (le-ltb (suc n) 128 h, spelt_enough n (suc n / 128) (suc n / 128) (omega arith) (omega arith))
 
-pub form-length : (n : ℕ) → 128 ≤ n → length (form n) ≡ suc (length (form (n / 128)))
-form-length n h = ap length (form-more n h)
+pub form_length : (n : ℕ) → 128 ≤ n → length (form n) ≡ suc (length (form (n / 128)))
+form_length n h = ap length (form_more n h)
 
-pub form-spells : (k n : ℕ) → n < 128 ^ suc k → Spells (form n) n (suc k)
-form-spells zero n h = rw (form-one n h) (one h)
-form-spells (suc k) n h =
-    ⊎_elim (λ l. rw (form-one n l) (one l)) (λ l. rw (form-more n l) (again l (form-spells k (n / 128) (omega (arith, pow-succ' 128 (suc k)))))) (below n 128)
+pub form_spells : (k n : ℕ) → n < 128 ^ suc k → Spells (form n) n (suc k)
+form_spells zero n h = rw (form_one n h) (one h)
+form_spells (suc k) n h =
+    ⊎_elim (λ l. rw (form_one n l) (one l)) (λ l. rw (form_more n l) (again l (form_spells k (n / 128) (omega (arith, pow-succ' 128 (suc k)))))) (below n 128)
   where
     again : 128 ≤ n → Spells (form (n / 128)) (n / 128) (suc k) → Spells ((128 + n % 128) ∷ form (n / 128)) n (suc (suc k))
     again l s = subst (λ (m : ℕ). Spells ((128 + n % 128) ∷ form (n / 128)) m (suc (suc k))) (omega arith) (more (omega arith) (omega arith) s)
@@ -122,6 +122,6 @@ form-spells (suc k) n h =
 -- ---- a number has one form only
 
 pub one_form : {bs : List ℕ} {n k : ℕ} → ((i : ℕ) → get_or bs i 0 < 256) → Spells bs n k → bs ≡ form n
-one_form {n = n} byte (one h) = sym (form-one n h)
+one_form {n = n} byte (one h) = sym (form_one n h)
 one_form byte (more {b = b} {n = n} {bs = bs} h p s) =
-    sym (form-more (b % 128 + 128 * n) (omega arith) ∙ ap₂ (λ (x : ℕ) (l : List ℕ). x ∷ l) (omega (arith, byte 0)) (ap form (omega arith) ∙ sym (one_form (λ i. byte (suc i)) s)))
+    sym (form_more (b % 128 + 128 * n) (omega arith) ∙ ap₂ (λ (x : ℕ) (l : List ℕ). x ∷ l) (omega (arith, byte 0)) (ap form (omega arith) ∙ sym (one_form (λ i. byte (suc i)) s)))

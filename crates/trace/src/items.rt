@@ -1,7 +1,7 @@
 // The items of a trace as events.
 ghost use Rattle.std.specs.Prelude.{◌≡◌, ◌-◌, ◌<◌, get_or, length};
-ghost use Rattle.trace.specs.Items.{shortEvents, clocked};
-ghost use Rattle.trace.specs.Figures.{lastByte, byteEvents};
+ghost use Rattle.trace.specs.Items.{short_events, clocked};
+ghost use Rattle.trace.specs.Figures.{last_byte, byte_events};
 
 // The first and the last number that is a data byte, and the events of one. `specs/Figures.antt` has them for the definitions.
 const FIRST_BYTE: u64 = 12;
@@ -12,7 +12,7 @@ const BYTE_EVENTS: u64 = 24;
 
 // Event number `k` of a data byte. Bit 7 is sent first.
 fn data_event(byte: u64, k: u64) -> u64
-    requires { k < byteEvents }
+    requires { k < byte_events }
     ensures { result ≡ get_or (clocked byte) k 0 }
 {
     match k % 3 {
@@ -24,7 +24,7 @@ fn data_event(byte: u64, k: u64) -> u64
 
 // How many pulses of SCK an item is: the number less 267, and none where it is an event or a data byte.
 pub fn pulses_of(item: u64) -> u64
-    ensures { result ≡ item - lastByte }
+    ensures { result ≡ item - last_byte }
 {
     if LAST_BYTE < item {
         item - LAST_BYTE
@@ -35,14 +35,14 @@ pub fn pulses_of(item: u64) -> u64
 
 // How many events an item is that is an event or a data byte.
 pub fn events_of(item: u64) -> u64
-    ensures { result ≡ length (shortEvents item) }
+    ensures { result ≡ length (short_events item) }
 {
     if item < FIRST_BYTE { 1 } else { BYTE_EVENTS }
 }
 
 // Event number `k` of such an item; 0 where it has no such event.
 pub fn event_of(item: u64, k: u64) -> u64
-    ensures { result ≡ get_or (shortEvents item) k 0 }
+    ensures { result ≡ get_or (short_events item) k 0 }
 {
     if events_of(item) <= k {
         return 0;

@@ -1,8 +1,8 @@
 // "A reader that holds the trace slice and its place serves the programs, over a core on plain numbers."
 ghost use Rattle.std.specs.Prelude.{◌≡◌};
-ghost use Rattle.trace.specs.Answers.{readTold};
+ghost use Rattle.trace.specs.Answers.{read_told};
 ghost use Rattle.trace.specs.Promises.{ReadPromise, NextPromise};
-ghost use Rattle.trace.specs.Reader.{readerAt};
+ghost use Rattle.trace.specs.Reader.{reader_at};
 
 use crate::answer::Read;
 use crate::number::read_at;
@@ -15,7 +15,7 @@ pub struct Reader<'a> {
 
 // A reader of `src` at the place `at`.
 pub fn open<'a>(src: &'a [u8], at: usize) -> Reader<'a>
-    ensures { result ≡ readerAt src.entry at }
+    ensures { result ≡ reader_at src.entry at }
 {
     Reader { src, at }
 }
@@ -34,7 +34,7 @@ pub fn next<'s, 'a>(r: &'s mut Reader<'a>) -> Read
 
 // The place that an answer gives.
 fn place_of(found: Read) -> usize
-    ensures { result ≡ (readTold found).place }
+    ensures { result ≡ (read_told found).place }
 {
     match found {
         Read::Number { value: _, next } => next,

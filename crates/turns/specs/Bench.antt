@@ -1,14 +1,14 @@
 -- What one event does to the bench (document 01, "The replay program"): to the chip and its record, to the array, and to
 -- the text that is printed. Assumes nothing.
 use Rattle.std.specs.Prelude.{ℕ, Bool, cond, List, [], ◌∷◌, ◌++◌, eqb, replicate}
-use Rattle.parts.specs.Figures.{serialBytes}
+use Rattle.parts.specs.Figures.{serial_bytes}
 use Rattle.pins.specs.declared.state.State.{State}
 use Rattle.step.specs.Step.{written}
 use Rattle.chip.specs.Event.{event}
 use Rattle.chip.specs.declared.event.Answer.{Answer}
-use Rattle.report.specs.Lines.{selectLine}
+use Rattle.report.specs.Lines.{select_line}
 use Rattle.turns.specs.Page.{Page, page_of, printed}
-use Rattle.turns.specs.Stand.{closes, shownBy, after}
+use Rattle.turns.specs.Stand.{closes, shown_by, after}
 use Rattle.turns.specs.declared.stand.Stand.{Stand}
 use Rattle.turns.specs.declared.turn.Turn.{Turn}
 
@@ -21,8 +21,8 @@ pub record Bench : Type 0 where
   pub shown : List ℕ
   pub text : List ℕ
 
-abbrev pub runsOn : Bench → Bool
-runsOn b = eqb b.refusal 0
+abbrev pub runs_on : Bench → Bool
+runs_on b = eqb b.refusal 0
 
 -- a refusal came, and all else is as it was
 abbrev pub stopped : Bench → ℕ → Bench
@@ -30,12 +30,12 @@ stopped b refusal =
     record { refusal = refusal; stand = b.stand; array = b.array; shown = b.shown; text = b.text }
 
 -- the line of the select that the record is of
-abbrev pub selectText : Stand → List ℕ → List ℕ
-selectText stand shown = selectLine stand.selects stand.told shown
+abbrev pub select_text : Stand → List ℕ → List ℕ
+select_text stand shown = select_line stand.selects stand.told shown
 
 -- "One line for each select": it comes where the select closes, by /CS or by "a power cut"
 abbrev pub closing : State → State → Stand → List ℕ → List ℕ
-closing before next stand shown = cond (closes before next) (selectText stand shown) []
+closing before next stand shown = cond (closes before next) (select_text stand shown) []
 
 -- an accepted event leaves the state, the byte that its note stored, its record, and the line of a select that it closes
 abbrev pub taken : Bench → State → Stand → List ℕ → List ℕ → Bench
@@ -49,24 +49,24 @@ taken b next stand array shown =
     }
 
 -- "Lent memory stays at every refusal."
-abbrev pub afterAnswer : Bench → ℕ → Answer → Bench
-afterAnswer b code a =
+abbrev pub after_answer : Bench → ℕ → Answer → Bench
+after_answer b code a =
     cond (eqb a.refusal 0)
-    (taken b a.state (after b.stand code a) (written a.note b.array) (shownBy b.shown b.stand code))
+    (taken b a.state (after b.stand code a) (written a.note b.array) (shown_by b.shown b.stand code))
     (stopped b a.refusal)
 
 -- "replay uses eight bytes 00": the serial number that is lent with every event, on parts that have none too, where any will do
-abbrev pub replaySerial : List ℕ
-replaySerial = replicate serialBytes 0
+abbrev pub replay_serial : List ℕ
+replay_serial = replicate serial_bytes 0
 
 -- an event on the bench
-unfoldable pub afterEvent : Bench → ℕ → Bench
-afterEvent b code = afterAnswer b code (event replaySerial b.array b.stand.chip code)
+unfoldable pub after_event : Bench → ℕ → Bench
+after_event b code = after_answer b code (event replay_serial b.array b.stand.chip code)
 
 -- It "stops at the first refusal": events in their order, each where none before it was refused
-abbrev pub afterEvents : Bench → List ℕ → Bench
-afterEvents b [] = b
-afterEvents b (code ∷ codes) = afterEvents (cond (runsOn b) (afterEvent b code) b) codes
+abbrev pub after_events : Bench → List ℕ → Bench
+after_events b [] = b
+after_events b (code ∷ codes) = after_events (cond (runs_on b) (after_event b code) b) codes
 
 -- ---- the bench as a program has it: the text stands on a page
 
@@ -78,16 +78,16 @@ pub record Desk : Type 0 where
   pub page : Page
 
 -- a turn's answer with the slices that it left
-abbrev pub deskOf : Turn → List ℕ → List ℕ → List ℕ → Desk
-deskOf t array shown out =
+abbrev pub desk_of : Turn → List ℕ → List ℕ → List ℕ → Desk
+desk_of t array shown out =
     record { refusal = t.refusal; stand = t.stand; array = array; shown = shown; page = page_of out t.at }
 
 -- a bench whose text is printed behind what the page has
-abbrev pub onPage : Page → Bench → Desk
-onPage p b =
+abbrev pub on_page : Page → Bench → Desk
+on_page p b =
     record { refusal = b.refusal; stand = b.stand; array = b.array; shown = b.shown; page = printed p b.text }
 
 -- the bench that a turn goes on from, with no text since
-abbrev pub benchOf : Turn → List ℕ → List ℕ → Bench
-benchOf t array shown =
+abbrev pub bench_of : Turn → List ℕ → List ℕ → Bench
+bench_of t array shown =
     record { refusal = t.refusal; stand = t.stand; array = array; shown = shown; text = [] }

@@ -6,12 +6,12 @@ use Rattle.pins.specs.declared.state.State.{State}
 use Rattle.step.specs.Step.{written}
 use Rattle.chip.specs.Event.{event}
 use Rattle.chip.specs.declared.event.Answer.{Answer}
-use Rattle.turns.specs.Bench.{Bench, afterEvents, runsOn, stopped, closing, taken, afterAnswer, replaySerial, afterEvent, deskOf, onPage, benchOf}
+use Rattle.turns.specs.Bench.{Bench, after_events, runs_on, stopped, closing, taken, after_answer, replay_serial, after_event, desk_of, on_page, bench_of}
 use Rattle.turns.specs.Page.{Page, page_of, printed}
-use Rattle.turns.specs.Stand.{after, shownBy}
+use Rattle.turns.specs.Stand.{after, shown_by}
 use Rattle.turns.specs.declared.stand.Stand.{Stand}
 use Rattle.turns.specs.declared.turn.Turn.{Turn}
-use Rattle.turns.specs.PrintLaws.{print-none, print-twice}
+use Rattle.turns.specs.PrintLaws.{print_none, print_twice}
 
 -- the bench with a text in front of its own
 abbrev pub front : List ℕ → Bench → Bench
@@ -22,48 +22,48 @@ front t b =
 abbrev pub Tells : (Bench → Bench) → Type 0
 Tells f = (t : List ℕ) (b : Bench) → f (front t b) ≡ front t (f b)
 
-tells-answer :
+tells_answer :
     (t : List ℕ) (b : Bench) (next : State) (stand : Stand) (ys ps : List ℕ) (refusal : ℕ) (v : Bool)
     → cond v (taken (front t b) next stand ys ps) (stopped (front t b) refusal)
     ≡ front t (cond v (taken b next stand ys ps) (stopped b refusal))
-tells-answer t b next stand ys ps refusal true =
+tells_answer t b next stand ys ps refusal true =
     let line : List ℕ = closing b.stand.chip next stand ps in
     λ i. record { refusal = 0; stand = stand; array = ys; shown = ps; text = append_assoc t b.text line i }
-tells-answer t b next stand ys ps refusal false = refl
+tells_answer t b next stand ys ps refusal false = refl
 
-tells-event : (code : ℕ) → Tells (λ b. afterEvent b code)
-unfolding afterEvent
-tells-event code t b = go (event replaySerial b.array b.stand.chip code)
+tells_event : (code : ℕ) → Tells (λ b. after_event b code)
+unfolding after_event
+tells_event code t b = go (event replay_serial b.array b.stand.chip code)
   where
-    go : (a : Answer) → afterAnswer (front t b) code a ≡ front t (afterAnswer b code a)
+    go : (a : Answer) → after_answer (front t b) code a ≡ front t (after_answer b code a)
     go a =
-        tells-answer t b a.state (after b.stand code a) (written a.note b.array)
-        (shownBy b.shown b.stand code) a.refusal (eqb a.refusal 0)
+        tells_answer t b a.state (after b.stand code a) (written a.note b.array)
+        (shown_by b.shown b.stand code) a.refusal (eqb a.refusal 0)
 
-pub tells-events : (es : List ℕ) → Tells (λ b. afterEvents b es)
-tells-events [] t b = refl
-tells-events (e ∷ es) t b = ap (λ (x : Bench). afterEvents x es) (go (runsOn b)) ∙ tells-events es t (cond (runsOn b) (afterEvent b e) b)
+pub tells_events : (es : List ℕ) → Tells (λ b. after_events b es)
+tells_events [] t b = refl
+tells_events (e ∷ es) t b = ap (λ (x : Bench). after_events x es) (go (runs_on b)) ∙ tells_events es t (cond (runs_on b) (after_event b e) b)
   where
-    go : (v : Bool) → cond v (afterEvent (front t b) e) (front t b) ≡ front t (cond v (afterEvent b e) b)
-    go true = tells-event e t b
+    go : (v : Bool) → cond v (after_event (front t b) e) (front t b) ≡ front t (cond v (after_event b e) b)
+    go true = tells_event e t b
     go false = refl
 
 -- a turn that told nothing yet
-pub desk-is : (t : Turn) (xs os out : List ℕ) → deskOf t xs os out ≡ onPage (page_of out t.at) (benchOf t xs os)
-desk-is t xs os out = λ i. record { refusal = t.refusal; stand = t.stand; array = xs; shown = os; page = sym (print-none (page_of out t.at)) i }
+pub desk_is : (t : Turn) (xs os out : List ℕ) → desk_of t xs os out ≡ on_page (page_of out t.at) (bench_of t xs os)
+desk_is t xs os out = λ i. record { refusal = t.refusal; stand = t.stand; array = xs; shown = os; page = sym (print_none (page_of out t.at)) i }
 
 -- a run that goes on from a turn is the run that goes on from the turn's bench, with its text printed first
-pub carry : (f : Bench → Bench) → Tells f → (t : Turn) (ys ps out : List ℕ) (p : Page) (b : Bench) → deskOf t ys ps out ≡ onPage p b
-    → onPage (page_of out t.at) (f (benchOf t ys ps)) ≡ onPage p (f b)
+pub carry : (f : Bench → Bench) → Tells f → (t : Turn) (ys ps out : List ℕ) (p : Page) (b : Bench) → desk_of t ys ps out ≡ on_page p b
+    → on_page (page_of out t.at) (f (bench_of t ys ps)) ≡ on_page p (f b)
 carry f tells t ys ps out p b e =
-    ap (λ (q : Page). onPage q (f (benchOf t ys ps))) (λ i. (e i).page)
-    ∙ sym (behind b.text (f (benchOf t ys ps)))
-    ∙ ap (onPage p) (sym (tells b.text (benchOf t ys ps)) ∙ ap f same)
+    ap (λ (q : Page). on_page q (f (bench_of t ys ps))) (λ i. (e i).page)
+    ∙ sym (behind b.text (f (bench_of t ys ps)))
+    ∙ ap (on_page p) (sym (tells b.text (bench_of t ys ps)) ∙ ap f same)
   where
-    behind : (x : List ℕ) (c : Bench) → onPage p (front x c) ≡ onPage (printed p x) c
+    behind : (x : List ℕ) (c : Bench) → on_page p (front x c) ≡ on_page (printed p x) c
     behind x c =
-        let e : printed p (x ++ c.text) ≡ printed (printed p x) c.text = sym (print-twice p.bytes p.at x c.text) in
+        let e : printed p (x ++ c.text) ≡ printed (printed p x) c.text = sym (print_twice p.bytes p.at x c.text) in
         λ i. record { refusal = c.refusal; stand = c.stand; array = c.array; shown = c.shown; page = e i }
 
-    same : front b.text (benchOf t ys ps) ≡ b
+    same : front b.text (bench_of t ys ps) ≡ b
     same = λ i. record { refusal = (e i).refusal; stand = (e i).stand; array = (e i).array; shown = (e i).shown; text = append-nil b.text i }

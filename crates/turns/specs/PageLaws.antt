@@ -12,10 +12,10 @@ cut out text = take (length out) text
 pub cut_fits : (out text : List ℕ) → length (cut out text) ≤ length out
 cut_fits out text = rw (length-take (length out) text) (min-le_left (length out) (length text))
 
-pub printed-front : (out text : List ℕ)
+pub printed_front : (out text : List ℕ)
     → printed (page_of out 0) text ≡ page_of (cut out text ++ drop (length (cut out text)) out) (length (cut out text))
 unfolding printed
-printed-front out text =
+printed_front out text =
     ap (λ (n : ℕ). page_of (sets out 0 (take n text)) (0 + length (take n text))) (sub-zero (length out))
     ∙ λ i. page_of (front i) (zero-add (length (cut out text)) i)
   where

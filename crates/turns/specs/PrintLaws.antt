@@ -5,71 +5,71 @@ use Rattle.std.proofs.Common.{sym, ap, ◌∙◌, ⊎_elim, add-zero, add-suc, s
 use Rattle.std.proofs.Math.Seq.{length-sets, take-nil}
 use Rattle.trace.specs.ByteLaws.{below}
 use Rattle.turns.specs.Page.{Page, page_of, fits, printed}
-use Rattle.turns.specs.PageLaws.{cut_fits, printed-front}
+use Rattle.turns.specs.PageLaws.{cut_fits, printed_front}
 
-pub print-none : (p : Page) → printed p [] ≡ p
+pub print_none : (p : Page) → printed p [] ≡ p
 unfolding printed
-print-none p = rw (take-nil {A = ℕ} (length p.bytes - p.at), add-zero p.at)
+print_none p = rw (take-nil {A = ℕ} (length p.bytes - p.at), add-zero p.at)
 
-pub print-full : (bs : List ℕ) (at : ℕ) (text : List ℕ) → length bs ≤ at → printed (page_of bs at) text ≡ page_of bs at
+pub print_full : (bs : List ℕ) (at : ℕ) (text : List ℕ) → length bs ≤ at → printed (page_of bs at) text ≡ page_of bs at
 unfolding printed
-print-full bs at text h =
+print_full bs at text h =
     let room : length bs - at ≡ 0 = omega arith in
     rw (room, add-zero at)
 
-print-one : (bs : List ℕ) (at x : ℕ) (xs : List ℕ) → at < length bs
+print_one : (bs : List ℕ) (at x : ℕ) (xs : List ℕ) → at < length bs
     → printed (page_of bs at) (x ∷ xs) ≡ printed (page_of (set bs at x) (suc at)) xs
 unfolding printed
-print-one bs at x xs h =
+print_one bs at x xs h =
     let room : length bs - at ≡ suc (length bs - suc at) = omega arith in
     rw (room, length-set bs at x, add-suc, suc-add)
 
 -- a text behind another is the two as one
-pub print-twice : (bs : List ℕ) (at : ℕ) (a b : List ℕ) → printed (printed (page_of bs at) a) b ≡ printed (page_of bs at) (a ++ b)
-print-twice bs at [] b = ap (λ (p : Page). printed p b) (print-none (page_of bs at))
-print-twice bs at (x ∷ a) b =
+pub print_twice : (bs : List ℕ) (at : ℕ) (a b : List ℕ) → printed (printed (page_of bs at) a) b ≡ printed (page_of bs at) (a ++ b)
+print_twice bs at [] b = ap (λ (p : Page). printed p b) (print_none (page_of bs at))
+print_twice bs at (x ∷ a) b =
     ⊎_elim
-    (λ h. ap (λ (p : Page). printed p b) (print-one bs at x a h) ∙ print-twice (set bs at x) (suc at) a b ∙ sym (print-one bs at x (a ++ b) h))
-    (λ h. ap (λ (p : Page). printed p b) (print-full bs at (x ∷ a) h) ∙ print-full bs at b h ∙ sym (print-full bs at (x ∷ a ++ b) h))
+    (λ h. ap (λ (p : Page). printed p b) (print_one bs at x a h) ∙ print_twice (set bs at x) (suc at) a b ∙ sym (print_one bs at x (a ++ b) h))
+    (λ h. ap (λ (p : Page). printed p b) (print_full bs at (x ∷ a) h) ∙ print_full bs at b h ∙ sym (print_full bs at (x ∷ a ++ b) h))
     (below at (length bs))
 
 -- a text printed where another ended
-pub print-then : (p q r : Page) (a b : List ℕ) → q ≡ printed p a → r ≡ printed q b → r ≡ printed p (a ++ b)
-print-then p q r a b first second = second ∙ ap (λ (x : Page). printed x b) first ∙ print-twice p.bytes p.at a b
+pub print_then : (p q r : Page) (a b : List ℕ) → q ≡ printed p a → r ≡ printed q b → r ≡ printed p (a ++ b)
+print_then p q r a b first second = second ∙ ap (λ (x : Page). printed x b) first ∙ print_twice p.bytes p.at a b
 
 -- a text that a test lets be printed, and one that it does not
-pub print-if : (p q : Page) (v w : Bool) (text : List ℕ) → v ≡ w → v ≡ true → q ≡ printed p text → q ≡ printed p (cond w text [])
-print-if p q v w text which h e = rw (← which, h) e
+pub print_if : (p q : Page) (v w : Bool) (text : List ℕ) → v ≡ w → v ≡ true → q ≡ printed p text → q ≡ printed p (cond w text [])
+print_if p q v w text which h e = rw (← which, h) e
 
-pub print-not : (p : Page) (v w : Bool) (text : List ℕ) → v ≡ w → v ≡ false → p ≡ printed p (cond w text [])
-print-not p v w text which h = rw (← which, h) (sym (print-none p))
+pub print_not : (p : Page) (v w : Bool) (text : List ℕ) → v ≡ w → v ≡ false → p ≡ printed p (cond w text [])
+print_not p v w text which h = rw (← which, h) (sym (print_none p))
 
 -- the slice is as long as it was
-print-length : (p : Page) (text : List ℕ) → length (printed p text).bytes ≡ length p.bytes
+print_length : (p : Page) (text : List ℕ) → length (printed p text).bytes ≡ length p.bytes
 unfolding printed
-print-length p text = length-sets p.bytes p.at (fits p text)
+print_length p text = length-sets p.bytes p.at (fits p text)
 
 -- byte number i of a text, and the others
-pub print-on : (bs : List ℕ) (at : ℕ) (text : List ℕ) (i : ℕ) → at < length bs → i < length text
+pub print_on : (bs : List ℕ) (at : ℕ) (text : List ℕ) (i : ℕ) → at < length bs → i < length text
     → printed (page_of (set bs at (get_or text i 0)) (at + 1)) (drop (i + 1) text) ≡ printed (page_of bs at) (drop i text)
-print-on bs at text i h k = rw (add-one i, add-one at, drop-cons text i 0 k) (sym (print-one bs at (get_or text i 0) (drop (suc i) text) h))
+print_on bs at text i h k = rw (add-one i, add-one at, drop-cons text i 0 k) (sym (print_one bs at (get_or text i 0) (drop (suc i) text) h))
 
 -- no byte is left
-pub print-over : (bs : List ℕ) (at : ℕ) (text : List ℕ) (i : ℕ) → length text ≤ i → page_of bs at ≡ printed (page_of bs at) (drop i text)
-print-over bs at text i h = rw (drop_of_length-le text {i = i} h) (sym (print-none (page_of bs at)))
+pub print_over : (bs : List ℕ) (at : ℕ) (text : List ℕ) (i : ℕ) → length text ≤ i → page_of bs at ≡ printed (page_of bs at) (drop i text)
+print_over bs at text i h = rw (drop_of_length-le text {i = i} h) (sym (print_none (page_of bs at)))
 
 -- a line that stands at the front of a buffer
-pub print-line : (p q : Page) (text rest line : List ℕ) (n : ℕ) → n ≡ length text → line ≡ text ++ rest → q ≡ printed p (take n line)
+pub print_line : (p q : Page) (text rest line : List ℕ) (n : ℕ) → n ≡ length text → line ≡ text ++ rest → q ≡ printed p (take n line)
     → q ≡ printed p text
-print-line p q text rest line n size is e = e ∙ ap (printed p) (rw is (take_at text rest n (sym size)))
+print_line p q text rest line n size is e = e ∙ ap (printed p) (rw is (take_at text rest n (sym size)))
 
 -- what is printed from the start of a slice on is no longer than the slice
-pub print-fits : (bs text : List ℕ) (q : Page) → q ≡ printed (page_of bs 0) text
+pub print_fits : (bs text : List ℕ) (q : Page) → q ≡ printed (page_of bs 0) text
     → (q.at ≤ length q.bytes) × (q.at ≡ length (take q.at q.bytes))
-print-fits bs text q e = (fit, sym (length-take-le q.at q.bytes fit))
+print_fits bs text q e = (fit, sym (length-take-le q.at q.bytes fit))
   where
     within : (printed (page_of bs 0) text).at ≤ length bs
-    within = rw (printed-front bs text) (cut_fits bs text)
+    within = rw (printed_front bs text) (cut_fits bs text)
 
     fit : q.at ≤ length q.bytes
-    fit = rw (e, print-length (page_of bs 0) text) within
+    fit = rw (e, print_length (page_of bs 0) text) within

@@ -1,8 +1,8 @@
 // The report's lines printed on a page: put into a lent slice from a place on, cut where the slice ends. Each call
 // answers the place behind what it put, and the rest of the slice stays.
 ghost use Rattle.std.specs.Prelude.{◌≡◌};
-ghost use Rattle.report.specs.Lines.{partLine, endLine};
-ghost use Rattle.turns.specs.Bench.{selectText};
+ghost use Rattle.report.specs.Lines.{part_line, end_line};
+ghost use Rattle.turns.specs.Bench.{select_text};
 ghost use Rattle.turns.specs.Page.{page_of, printed};
 
 use crate::stand::Stand;
@@ -28,7 +28,7 @@ fn print(out: &mut [u8], at: usize, text: &[u8]) -> usize
 
 // Line 1.
 pub fn print_part(out: &mut [u8], at: usize, part: u64, size: u64, kept: u8) -> usize
-    ensures { page_of out.new result ≡ printed (page_of out.old at) (partLine part size kept) }
+    ensures { page_of out.new result ≡ printed (page_of out.old at) (part_line part size kept) }
 {
     let mut line = [0u8; LINE];
     let n = part_line(&mut line, part, size, kept);
@@ -37,7 +37,7 @@ pub fn print_part(out: &mut [u8], at: usize, part: u64, size: u64, kept: u8) -> 
 
 // The line of the last select.
 pub fn print_select(out: &mut [u8], at: usize, stand: Stand, shown: &[u8; SHOWN]) -> usize
-    ensures { page_of out.new result ≡ printed (page_of out.old at) (selectText stand shown.now) }
+    ensures { page_of out.new result ≡ printed (page_of out.old at) (select_text stand shown.now) }
 {
     let mut line = [0u8; LINE];
     let n = select_line(&mut line, stand.selects, stand.told, shown);
@@ -46,7 +46,7 @@ pub fn print_select(out: &mut [u8], at: usize, stand: Stand, shown: &[u8; SHOWN]
 
 // The last line.
 pub fn print_end(out: &mut [u8], at: usize, kept: u8, latch: bool, refusal: u8) -> usize
-    ensures { page_of out.new result ≡ printed (page_of out.old at) (endLine kept latch refusal) }
+    ensures { page_of out.new result ≡ printed (page_of out.old at) (end_line kept latch refusal) }
 {
     let mut line = [0u8; LINE];
     let n = end_line(&mut line, kept, latch, refusal);

@@ -1,6 +1,6 @@
 // What stands on the bench: the chip, how many selects it saw, and the record of the last of them.
 ghost use Rattle.std.specs.Prelude.{◌≡◌};
-ghost use Rattle.turns.specs.Stand.{closes, noEvent, clockedBy, shownBy, after};
+ghost use Rattle.turns.specs.Stand.{closes, no_event, clocked_by, shown_by, after};
 
 use chip::event::Answer;
 use pins::state::State;
@@ -19,7 +19,7 @@ pub struct Stand {
 impl Stand {
     // A chip that no event came to.
     pub fn new(chip: State) -> Stand
-        ensures { result ≡ noEvent chip }
+        ensures { result ≡ no_event chip }
     {
         Stand {
             chip,
@@ -38,8 +38,8 @@ impl Stand {
 
     // The record after an event: a seen rise takes SI and SO as they stood before it.
     fn clocked(self, code: u64, shown: &mut [u8; SHOWN]) -> Record
-        ensures value { result ≡ clockedBy self code }
-        ensures shown_after { shown.new ≡ shownBy shown.old self code }
+        ensures value { result ≡ clocked_by self code }
+        ensures shown_after { shown.new ≡ shown_by shown.old self code }
     {
         let chip = self.chip;
         let told = self.told;
@@ -53,7 +53,7 @@ impl Stand {
     // After an accepted event.
     pub fn after(self, code: u64, answer: Answer, shown: &mut [u8; SHOWN]) -> Stand
         ensures value { result ≡ after self code answer }
-        ensures shown_after { shown.new ≡ shownBy shown.old self code }
+        ensures shown_after { shown.new ≡ shown_by shown.old self code }
     {
         let chip = self.chip;
         let next = answer.state;

@@ -1,6 +1,6 @@
 // A turn: what one event does to the bench.
 ghost use Rattle.std.specs.Prelude.{◌≡◌};
-ghost use Rattle.turns.specs.Bench.{benchOf, deskOf, onPage, afterEvent};
+ghost use Rattle.turns.specs.Bench.{bench_of, desk_of, on_page, after_event};
 ghost use Rattle.turns.specs.Page.{page_of};
 
 use crate::page::print_select;
@@ -28,8 +28,8 @@ pub fn take_event(
     out: &mut [u8],
     code: u64,
 ) -> Turn
-    ensures { deskOf result array.new shown.new out.new
-        ≡ onPage (page_of out.old turn.at) (afterEvent (benchOf turn array.old shown.old) code) }
+    ensures { desk_of result array.new shown.new out.new
+        ≡ on_page (page_of out.old turn.at) (after_event (bench_of turn array.old shown.old) code) }
 {
     let stand = turn.stand;
     let chip = stand.chip;

@@ -1,6 +1,6 @@
 // The counting call: one event, with one counter of 32 bits for each row of the array.
 ghost use Rattle.std.specs.Prelude.{◌≡◌, ◌<◌};
-ghost use Rattle.wear.specs.Count.{oneMore, sameRow, addAll, cycled, countRefusal};
+ghost use Rattle.wear.specs.Count.{one_more, same_row, add_all, cycled, count_refusal};
 ghost use Rattle.wear.specs.Promises.{CountPromise};
 
 use chip::event::{Answer, event};
@@ -14,7 +14,7 @@ use stages::last::last_of;
 const FULL: u32 = 0xFFFF_FFFF;
 
 fn one_more(count: u32) -> u32
-    ensures { result ≡ oneMore count }
+    ensures { result ≡ one_more count }
 {
     if count == FULL { FULL } else { count + 1 }
 }
@@ -23,7 +23,7 @@ fn one_more(count: u32) -> u32
 fn same_row(size: usize, before: u32, after: u32) -> bool
     requires size_nonzero { 0 < size }
     requires after_nonzero { 0 < after }
-    ensures { result ≡ sameRow size before after }
+    ensures { result ≡ same_row size before after }
 {
     if before == 0 {
         return false;
@@ -34,7 +34,7 @@ fn same_row(size: usize, before: u32, after: u32) -> bool
 // One more for the row of the byte touched last, unless the byte touched last before lay in it.
 fn add(counters: &mut [u32], size: usize, before: u32, after: u32)
     requires { 0 < size }
-    ensures { counters.new ≡ addAll counters.old (cycled size before after) }
+    ensures { counters.new ≡ add_all counters.old (cycled size before after) }
 {
     if after == 0 {
         return;
@@ -50,7 +50,7 @@ fn add(counters: &mut [u32], size: usize, before: u32, after: u32)
 
 // The refusals of a state and of what is lent with it: 4, 1, 2, 15, 16; 0 where none is given.
 fn count_refusal(state: State, len: usize, serial: usize, counters: usize) -> u8
-    ensures { result ≡ countRefusal state len serial counters }
+    ensures { result ≡ count_refusal state len serial counters }
 {
     let f = figure_of(state.part as u64);
     if !sound_by(f, state) {

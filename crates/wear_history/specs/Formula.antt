@@ -61,22 +61,22 @@ module _ (q r : ℕ) (two : 2 ≤ q) (some : 0 < r) where
   row_of : (x : ℕ) → x % (q * r) / r ≡ x / r % q
   row_of x = ap (λ (k : ℕ). k / r) (mod-mul x (omega (arith, two)) some) ∙ digits_div (x / r % q) (mod-lt x some)
 
-  same_row : (p : ℕ) → (p + 1) / r ≡ p / r → p % (q * r) / r ≡ (p + 1) % (q * r) / r
-  same_row p e = row_of p ∙ ap (λ (k : ℕ). k % q) (sym e) ∙ sym (row_of (p + 1))
+  same_row_lem : (p : ℕ) → (p + 1) / r ≡ p / r → p % (q * r) / r ≡ (p + 1) % (q * r) / r
+  same_row_lem p e = row_of p ∙ ap (λ (k : ℕ). k % q) (sym e) ∙ sym (row_of (p + 1))
 
-  next-other : (p : ℕ) → (p + 1) / r ≡ p / r + 1 → p % (q * r) / r ≡ (p + 1) % (q * r) / r → ⊥
-  next-other p e g = other q (p / r) two (sym (row_of p) ∙ g ∙ row_of (p + 1) ∙ ap (λ (k : ℕ). k % q) e)
+  next_other : (p : ℕ) → (p + 1) / r ≡ p / r + 1 → p % (q * r) / r ≡ (p + 1) % (q * r) / r → ⊥
+  next_other p e g = other q (p / r) two (sym (row_of p) ∙ g ∙ row_of (p + 1) ∙ ap (λ (k : ℕ). k % q) e)
 
   -- a place in the same row adds none, one in another row adds one
   abbrev turned : ℕ → ℕ → List ℕ → List ℕ
   turned here next rest = cond (eqb here next) (changes r here rest) (next ∷ changes r next rest)
 
-  turn-stays : (here next a b c : ℕ) (rest : List ℕ) → here ≡ next → b ≡ a → length (changes r next rest) + b ≡ c → length (turned here next rest) + a ≡ c
-  turn-stays here next a b c rest same e told =
+  turn_stays : (here next a b c : ℕ) (rest : List ℕ) → here ≡ next → b ≡ a → length (changes r next rest) + b ≡ c → length (turned here next rest) + a ≡ c
+  turn_stays here next a b c rest same e told =
       rw (eq-eqb here next same) (ap (λ (k : ℕ). length (changes r k rest) + a) same ∙ ap (λ (k : ℕ). length (changes r next rest) + k) (sym e) ∙ told)
 
-  turn-moves : (here next a b c : ℕ) (rest : List ℕ) → (here ≡ next → ⊥) → b ≡ a + 1 → length (changes r next rest) + b ≡ c → length (turned here next rest) + a ≡ c
-  turn-moves here next a b c rest differs e told = rw (ne_eqb here next differs) (omega (arith, e, told))
+  turn_moves : (here next a b c : ℕ) (rest : List ℕ) → (here ≡ next → ⊥) → b ≡ a + 1 → length (changes r next rest) + b ≡ c → length (turned here next rest) + a ≡ c
+  turn_moves here next a b c rest differs e told = rw (ne_eqb here next differs) (omega (arith, e, told))
 
   -- past the place p so many more add as many rows as lie between them
   between : (p n : ℕ) → length (changes r (p % (q * r) / r) (places (q * r) (p + 1) n)) + p / r ≡ (p + n) / r
@@ -92,8 +92,8 @@ module _ (q r : ℕ) (two : 2 ≤ q) (some : 0 < r) where
 
       go : Next p r → length (changes r ((p + 1) % (q * r) / r) (places (q * r) (p + 1 + 1) n)) + (p + 1) / r ≡ (p + suc n) / r
           → length (turned (p % (q * r) / r) ((p + 1) % (q * r) / r) (places (q * r) (p + 1 + 1) n)) + p / r ≡ (p + suc n) / r
-      go (stays e) told = turn-stays (p % (q * r) / r) ((p + 1) % (q * r) / r) (p / r) ((p + 1) / r) ((p + suc n) / r) (places (q * r) (p + 1 + 1) n) (same_row p e) e told
-      go (moves e) told = turn-moves (p % (q * r) / r) ((p + 1) % (q * r) / r) (p / r) ((p + 1) / r) ((p + suc n) / r) (places (q * r) (p + 1 + 1) n) (next-other p e) e told
+      go (stays e) told = turn_stays (p % (q * r) / r) ((p + 1) % (q * r) / r) (p / r) ((p + 1) / r) ((p + suc n) / r) (places (q * r) (p + 1 + 1) n) (same_row_lem p e) e told
+      go (moves e) told = turn_moves (p % (q * r) / r) ((p + 1) % (q * r) / r) (p / r) ((p + 1) / r) ((p + suc n) / r) (places (q * r) (p + 1 + 1) n) (next_other p e) e told
 
   -- "a READ that drives the first bit of n bytes from address a on, n at least 1, with rows of r bytes adds
   --  floor((a+n-1)/r) - floor(a/r) + 1, rollover included"

@@ -4,12 +4,12 @@ use mathlib.Core.Bool.{Bool, true, false, cond}
 use mathlib.Core.List.{List, [], ◌++◌}
 use Prim.Native.Nat.{ℕ}
 use Rattle.turns.specs.Page.{Page, printed}
-use Rattle.turns.specs.PrintLaws.{print-none, print-then, print-twice}
+use Rattle.turns.specs.PrintLaws.{print_none, print_then, print_twice}
 use Rattle.words.specs.Prints.{Prints}
 
 -- nothing is printed
 pub none : (p : Page) → Prints p [] p
-none p = record { page = sym (print-none p) }
+none p = record { page = sym (print_none p) }
 
 -- a text by another name
 pub same : {p q : Page} {a b : List ℕ} → a ≡ b → Prints p a q → Prints p b q
@@ -17,20 +17,20 @@ same {p} e x = record { page = x.page ∙ ap (printed p) e }
 
 infixl 60 ◌then◌
 pub ◌then◌ : {p q r : Page} {a b : List ℕ} → Prints p a q → Prints q b r → Prints p (a ++ b) r
-◌then◌ {p} {q} {r} {a} {b} x y = record { page = print-then p q r a b x.page y.page }
+◌then◌ {p} {q} {r} {a} {b} x y = record { page = print_then p q r a b x.page y.page }
 
 -- a text that a test lets be printed, and one that it does not
-pub where-so : {p q : Page} {text : List ℕ} (v w : Bool) → v ≡ w → v ≡ true → Prints p text q → Prints p (cond w text []) q
-where-so v w which h x = rw (← which, h) x
+pub where_so : {p q : Page} {text : List ℕ} (v w : Bool) → v ≡ w → v ≡ true → Prints p text q → Prints p (cond w text []) q
+where_so v w which h x = rw (← which, h) x
 
-pub where-not : (p : Page) (text : List ℕ) (v w : Bool) → v ≡ w → v ≡ false → Prints p (cond w text []) p
-where-not p text v w which h = rw (← which, h) (none p)
+pub where_not : (p : Page) (text : List ℕ) (v w : Bool) → v ≡ w → v ≡ false → Prints p (cond w text []) p
+where_not p text v w which h = rw (← which, h) (none p)
 
 -- of a text, a piece is printed and the rest is left
-pub left-on : (p q : Page) (piece rest text : List ℕ) → text ≡ piece ++ rest → Prints p piece q → printed q rest ≡ printed p text
-left-on p q piece rest text is x =
-    ap (λ (y : Page). printed y rest) x.page ∙ print-twice p.bytes p.at piece rest ∙ ap (printed p) (sym is)
+pub left_on : (p q : Page) (piece rest text : List ℕ) → text ≡ piece ++ rest → Prints p piece q → printed q rest ≡ printed p text
+left_on p q piece rest text is x =
+    ap (λ (y : Page). printed y rest) x.page ∙ print_twice p.bytes p.at piece rest ∙ ap (printed p) (sym is)
 
 -- nothing is left
 pub left_over : (p r : Page) (text : List ℕ) → text ≡ [] → printed p text ≡ r → p ≡ r
-left_over p r text is x = sym (print-none p) ∙ ap (printed p) (sym is) ∙ x
+left_over p r text is x = sym (print_none p) ∙ ap (printed p) (sym is) ∙ x

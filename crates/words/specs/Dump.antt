@@ -4,32 +4,32 @@ use Rattle.supply.specs.Power.{fresh}
 use Rattle.report.specs.Text.{ascii, hex}
 use Rattle.words.specs.Words.{address}
 
-abbrev pub rowBytes : ℕ
-rowBytes = 16
+abbrev pub row_bytes : ℕ
+row_bytes = 16
 
 -- every byte is that of a fresh array
-unfoldable pub allFresh : List ℕ → Bool
-allFresh [] = true
-allFresh (b ∷ bs) = eqb b fresh && allFresh bs
+unfoldable pub all_fresh : List ℕ → Bool
+all_fresh [] = true
+all_fresh (b ∷ bs) = eqb b fresh && all_fresh bs
 
 -- bytes in hex, a space before each
-unfoldable pub spacedByte : ℕ → List ℕ
-spacedByte b = ascii " " ++ hex b
+unfoldable pub spaced_byte : ℕ → List ℕ
+spaced_byte b = ascii " " ++ hex b
 
 unfoldable pub spaced : List ℕ → List ℕ
 spaced [] = []
-spaced (b ∷ bs) = spacedByte b ++ spaced bs
+spaced (b ∷ bs) = spaced_byte b ++ spaced bs
 
 -- "0010: A5 FF .."; nothing for a fresh row
-unfoldable pub rowText : ℕ → List ℕ → List ℕ
-rowText at row = cond (allFresh row) [] (address at ++ ascii ":" ++ spaced row ++ ascii "\n")
+unfoldable pub row_text : ℕ → List ℕ → List ℕ
+row_text at row = cond (all_fresh row) [] (address at ++ ascii ":" ++ spaced row ++ ascii "\n")
 
 -- so many rows from row i on
-unfoldable pub rowsText : List ℕ → ℕ → ℕ → List ℕ
-rowsText xs zero i = []
-rowsText xs (suc left) i = rowText (i * rowBytes) (take rowBytes (drop (i * rowBytes) xs)) ++ rowsText xs left (i + 1)
+unfoldable pub rows_text : List ℕ → ℕ → ℕ → List ℕ
+rows_text xs zero i = []
+rows_text xs (suc left) i = row_text (i * row_bytes) (take row_bytes (drop (i * row_bytes) xs)) ++ rows_text xs left (i + 1)
 
 -- all rows; every part's array is whole rows
-unfoldable pub arrayText : List ℕ → List ℕ
-arrayText xs =
-    cond (allFresh xs) (ascii "array: all FF\n") (ascii "array, where it is not FF:\n" ++ rowsText xs (length xs / rowBytes) 0)
+unfoldable pub array_text : List ℕ → List ℕ
+array_text xs =
+    cond (all_fresh xs) (ascii "array: all FF\n") (ascii "array, where it is not FF:\n" ++ rows_text xs (length xs / row_bytes) 0)

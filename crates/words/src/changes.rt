@@ -4,8 +4,8 @@ ghost use Rattle.report.specs.Record.{sampled};
 ghost use Rattle.report.specs.Text.{ascii};
 ghost use Rattle.turns.specs.Page.{page_of};
 ghost use Rattle.turns.specs.Stand.{opens, closes};
-ghost use Rattle.words.specs.Changes.{codeComes, fallsAsleep, powerBack, flips, changes, turned, sampledBy};
-ghost use Rattle.words.specs.Lines.{said, openLine, codeLine, closeLine, latchLine, keptLine};
+ghost use Rattle.words.specs.Changes.{code_comes, falls_asleep, power_back, flips, changes, turned, sampled_by};
+ghost use Rattle.words.specs.Lines.{said, open_line, code_line, close_line, latch_line, kept_line};
 ghost use Rattle.words.specs.Prints.{Prints};
 
 use crate::lines::{print_close, print_code, print_note, print_open, say};
@@ -26,14 +26,14 @@ fn opens(before: State, after: State) -> bool
 
 // The eighth clock of a select that is not ignored.
 fn code_comes(before: Record, after: Record) -> bool
-    ensures { result ≡ codeComes before after }
+    ensures { result ≡ code_comes before after }
 {
     (before.clocks < CODE_CLOCKS) & (CODE_CLOCKS <= after.clocks) & !after.ignored
 }
 
 // The part falls asleep.
 fn falls_asleep(before: State, after: State) -> bool
-    ensures { result ≡ fallsAsleep before after }
+    ensures { result ≡ falls_asleep before after }
 {
     let was = before.stage;
     let is = after.stage;
@@ -42,13 +42,13 @@ fn falls_asleep(before: State, after: State) -> bool
 
 // Power is back.
 fn power_back(before: State, after: State) -> bool
-    ensures { result ≡ powerBack before after }
+    ensures { result ≡ power_back before after }
 {
     !before.power & after.power
 }
 
 fn tell_power(out: &mut [u8], at: usize, place: usize, before: State, after: State) -> usize
-    ensures { Prints (page_of out.old at) (cond (powerBack before after) (said place (ascii "power back")) []) (page_of out.new result) }
+    ensures { Prints (page_of out.old at) (cond (power_back before after) (said place (ascii "power back")) []) (page_of out.new result) }
 {
     if power_back(before, after) {
         return say(out, at, place, b"power back");
@@ -57,7 +57,7 @@ fn tell_power(out: &mut [u8], at: usize, place: usize, before: State, after: Sta
 }
 
 fn tell_open(out: &mut [u8], at: usize, place: usize, before: Stand, after: Stand) -> usize
-    ensures { Prints (page_of out.old at) (cond (opens before.chip after.chip) (openLine place after) []) (page_of out.new result) }
+    ensures { Prints (page_of out.old at) (cond (opens before.chip after.chip) (open_line place after) []) (page_of out.new result) }
 {
     let was = before.chip;
     let is = after.chip;
@@ -68,7 +68,7 @@ fn tell_open(out: &mut [u8], at: usize, place: usize, before: Stand, after: Stan
 }
 
 fn tell_code(out: &mut [u8], at: usize, place: usize, before: Stand, after: Stand) -> usize
-    ensures { Prints (page_of out.old at) (cond (codeComes before.told after.told) (codeLine place after.chip.part after.told.code) []) (page_of out.new result) }
+    ensures { Prints (page_of out.old at) (cond (code_comes before.told after.told) (code_line place after.chip.part after.told.code) []) (page_of out.new result) }
 {
     let was = before.told;
     let is = after.told;
@@ -80,7 +80,7 @@ fn tell_code(out: &mut [u8], at: usize, place: usize, before: Stand, after: Stan
 }
 
 fn tell_close(out: &mut [u8], at: usize, place: usize, before: Stand, after: Stand) -> usize
-    ensures { Prints (page_of out.old at) (cond (closes before.chip after.chip) (closeLine place after) []) (page_of out.new result) }
+    ensures { Prints (page_of out.old at) (cond (closes before.chip after.chip) (close_line place after) []) (page_of out.new result) }
 {
     let is = after.chip;
     if before.closes(is) {
@@ -90,7 +90,7 @@ fn tell_close(out: &mut [u8], at: usize, place: usize, before: Stand, after: Sta
 }
 
 fn tell_sleep(out: &mut [u8], at: usize, place: usize, before: State, after: State) -> usize
-    ensures { Prints (page_of out.old at) (cond (fallsAsleep before after) (said place (ascii "the part sleeps")) []) (page_of out.new result) }
+    ensures { Prints (page_of out.old at) (cond (falls_asleep before after) (said place (ascii "the part sleeps")) []) (page_of out.new result) }
 {
     if falls_asleep(before, after) {
         return say(out, at, place, b"the part sleeps");
@@ -112,7 +112,7 @@ pub fn tell_changes(out: &mut [u8], at: usize, place: usize, before: Stand, afte
 }
 
 fn tell_latch(out: &mut [u8], at: usize, place: usize, before: bool, after: bool) -> usize
-    ensures { Prints (page_of out.old at) (cond (flips before after) (latchLine place after) []) (page_of out.new result) }
+    ensures { Prints (page_of out.old at) (cond (flips before after) (latch_line place after) []) (page_of out.new result) }
 {
     if (before & !after) | (!before & after) {
         return print_note(out, at, place, Note::Latch(after));
@@ -121,7 +121,7 @@ fn tell_latch(out: &mut [u8], at: usize, place: usize, before: bool, after: bool
 }
 
 fn tell_kept(out: &mut [u8], at: usize, place: usize, before: u8, after: u8) -> usize
-    ensures { Prints (page_of out.old at) (cond (eqb before after) [] (keptLine place after)) (page_of out.new result) }
+    ensures { Prints (page_of out.old at) (cond (eqb before after) [] (kept_line place after)) (page_of out.new result) }
 {
     if before == after {
         return at;
@@ -150,7 +150,7 @@ fn sample(bits: u16, so: Level) -> Taken
 
 // What SO showed before an event.
 pub fn sampled_by(stand: Stand, code: u64) -> Taken
-    ensures { result ≡ sampledBy stand code }
+    ensures { result ≡ sampled_by stand code }
 {
     let chip = stand.chip;
     let told = stand.told;

@@ -1,7 +1,7 @@
 // The array at the end: rows of 16 bytes, without the rows that are fresh.
 ghost use Rattle.std.specs.Prelude.{◌≡◌, ◌*◌, ◌≤◌, length};
 ghost use Rattle.turns.specs.Page.{page_of};
-ghost use Rattle.words.specs.Dump.{allFresh, spacedByte, spaced, rowText, rowsText, arrayText};
+ghost use Rattle.words.specs.Dump.{all_fresh, spaced_byte, spaced, row_text, rows_text, array_text};
 ghost use Rattle.words.specs.Prints.{Prints};
 
 use crate::page::{print, print_address, print_hex};
@@ -13,7 +13,7 @@ const FRESH: u8 = 0xFF;
 
 // Whether every byte is that of a fresh array.
 fn all_fresh(bytes: &[u8]) -> bool
-    ensures { result ≡ allFresh bytes.now }
+    ensures { result ≡ all_fresh bytes.now }
 {
     let mut i = 0;
     while i < bytes.len() {
@@ -27,7 +27,7 @@ fn all_fresh(bytes: &[u8]) -> bool
 
 // A byte in hex, a space before it.
 fn print_one(out: &mut [u8], at: usize, byte: u8) -> usize
-    ensures { Prints (page_of out.old at) (spacedByte byte) (page_of out.new result) }
+    ensures { Prints (page_of out.old at) (spaced_byte byte) (page_of out.new result) }
 {
     let next = print(out, at, b" ");
     print_hex(out, next, byte)
@@ -48,7 +48,7 @@ fn print_spaced(out: &mut [u8], at: usize, bytes: &[u8]) -> usize
 
 // A row, where it is not fresh.
 fn print_row(out: &mut [u8], at: usize, address: usize, row: &[u8]) -> usize
-    ensures { Prints (page_of out.old at) (rowText address row.now) (page_of out.new result) }
+    ensures { Prints (page_of out.old at) (row_text address row.now) (page_of out.new result) }
 {
     if all_fresh(row) {
         return at;
@@ -62,7 +62,7 @@ fn print_row(out: &mut [u8], at: usize, address: usize, row: &[u8]) -> usize
 // So many rows.
 fn print_rows(out: &mut [u8], at: usize, array: &[u8], rows: usize) -> usize
     requires { rows * 16 ≤ length array.now }
-    ensures { Prints (page_of out.old at) (rowsText array.now rows 0) (page_of out.new result) }
+    ensures { Prints (page_of out.old at) (rows_text array.now rows 0) (page_of out.new result) }
 {
     let mut next = at;
     let mut i = 0;
@@ -76,7 +76,7 @@ fn print_rows(out: &mut [u8], at: usize, array: &[u8], rows: usize) -> usize
 
 // The array.
 pub fn print_array(out: &mut [u8], at: usize, array: &[u8]) -> usize
-    ensures { Prints (page_of out.old at) (arrayText array.now) (page_of out.new result) }
+    ensures { Prints (page_of out.old at) (array_text array.now) (page_of out.new result) }
 {
     if all_fresh(array) {
         return print(out, at, b"array: all FF\n");

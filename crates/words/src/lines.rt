@@ -1,7 +1,7 @@
 // The lines of the story, each with the place in the trace of the item that it is about.
 ghost use Rattle.std.specs.Prelude.{◌-◌, ◌≡◌};
 ghost use Rattle.turns.specs.Page.{page_of};
-ghost use Rattle.words.specs.Lines.{begun, said, powerLine, openLine, codeLine, closeLine, storedLine, heldLine, keptLine, keptHeldLine, latchLine, noteText, byteLine, shownText, refusedLine, grownText, runLine, leftLine, endLine};
+ghost use Rattle.words.specs.Lines.{begun, said, power_line, open_line, code_line, close_line, stored_line, held_line, kept_line, kept_held_line, latch_line, note_text, byte_line, shown_text, refused_line, grown_text, run_line, left_line, end_line};
 ghost use Rattle.words.specs.Prints.{Prints};
 
 use crate::page::{print, print_address, print_decimal, print_hex};
@@ -33,7 +33,7 @@ pub fn say(out: &mut [u8], at: usize, place: usize, words: &[u8]) -> usize
 
 // Power-up.
 pub fn print_power(out: &mut [u8], at: usize, part: u64, size: u64, kept: u8) -> usize
-    ensures { Prints (page_of out.old at) (powerLine part size kept) (page_of out.new result) }
+    ensures { Prints (page_of out.old at) (power_line part size kept) (page_of out.new result) }
 {
     let next = begin(out, at, 0, b"power-up of part ");
     let next = print_decimal(out, next, part);
@@ -46,7 +46,7 @@ pub fn print_power(out: &mut [u8], at: usize, part: u64, size: u64, kept: u8) ->
 
 // A select opens.
 pub fn print_open(out: &mut [u8], at: usize, place: usize, stand: Stand) -> usize
-    ensures { Prints (page_of out.old at) (openLine place stand) (page_of out.new result) }
+    ensures { Prints (page_of out.old at) (open_line place stand) (page_of out.new result) }
 {
     let told = stand.told;
     let next = begin(out, at, place, b"select ");
@@ -59,7 +59,7 @@ pub fn print_open(out: &mut [u8], at: usize, place: usize, stand: Stand) -> usiz
 
 // An op-code is whole.
 pub fn print_code(out: &mut [u8], at: usize, place: usize, part: u8, code: u8) -> usize
-    ensures { Prints (page_of out.old at) (codeLine place part code) (page_of out.new result) }
+    ensures { Prints (page_of out.old at) (code_line place part code) (page_of out.new result) }
 {
     let f = figure_of(part as u64);
     let ops = f.ops;
@@ -73,7 +73,7 @@ pub fn print_code(out: &mut [u8], at: usize, place: usize, part: u8, code: u8) -
 
 // A select ends.
 pub fn print_close(out: &mut [u8], at: usize, place: usize, stand: Stand) -> usize
-    ensures { Prints (page_of out.old at) (closeLine place stand) (page_of out.new result) }
+    ensures { Prints (page_of out.old at) (close_line place stand) (page_of out.new result) }
 {
     let told = stand.told;
     let next = begin(out, at, place, b"select ");
@@ -85,7 +85,7 @@ pub fn print_close(out: &mut [u8], at: usize, place: usize, stand: Stand) -> usi
 
 // A byte was stored.
 fn print_stored(out: &mut [u8], at: usize, place: usize, address: usize, byte: u8) -> usize
-    ensures { Prints (page_of out.old at) (storedLine place address byte) (page_of out.new result) }
+    ensures { Prints (page_of out.old at) (stored_line place address byte) (page_of out.new result) }
 {
     let next = begin(out, at, place, b"stored ");
     let next = print_hex(out, next, byte);
@@ -96,7 +96,7 @@ fn print_stored(out: &mut [u8], at: usize, place: usize, address: usize, byte: u
 
 // A byte was held back.
 fn print_held(out: &mut [u8], at: usize, place: usize, address: usize, reason: Reason) -> usize
-    ensures { Prints (page_of out.old at) (heldLine place address reason) (page_of out.new result) }
+    ensures { Prints (page_of out.old at) (held_line place address reason) (page_of out.new result) }
 {
     let next = begin(out, at, place, b"held back at ");
     let next = print_address(out, next, address);
@@ -107,7 +107,7 @@ fn print_held(out: &mut [u8], at: usize, place: usize, address: usize, reason: R
 
 // Kept bits were set.
 fn print_kept(out: &mut [u8], at: usize, place: usize, kept: u8) -> usize
-    ensures { Prints (page_of out.old at) (keptLine place kept) (page_of out.new result) }
+    ensures { Prints (page_of out.old at) (kept_line place kept) (page_of out.new result) }
 {
     let next = begin(out, at, place, b"kept bits set to ");
     let next = print_hex(out, next, kept);
@@ -116,7 +116,7 @@ fn print_kept(out: &mut [u8], at: usize, place: usize, kept: u8) -> usize
 
 // Kept bits were held back.
 fn print_kept_held(out: &mut [u8], at: usize, place: usize, reason: Reason) -> usize
-    ensures { Prints (page_of out.old at) (keptHeldLine place reason) (page_of out.new result) }
+    ensures { Prints (page_of out.old at) (kept_held_line place reason) (page_of out.new result) }
 {
     let next = begin(out, at, place, b"kept bits held back: ");
     let next = print_reason(out, next, reason);
@@ -125,7 +125,7 @@ fn print_kept_held(out: &mut [u8], at: usize, place: usize, reason: Reason) -> u
 
 // The latch, changed or not.
 fn print_latch(out: &mut [u8], at: usize, place: usize, on: bool) -> usize
-    ensures { Prints (page_of out.old at) (latchLine place on) (page_of out.new result) }
+    ensures { Prints (page_of out.old at) (latch_line place on) (page_of out.new result) }
 {
     if on {
         return say(out, at, place, b"latch on");
@@ -135,7 +135,7 @@ fn print_latch(out: &mut [u8], at: usize, place: usize, on: bool) -> usize
 
 // What a note says.
 pub fn print_note(out: &mut [u8], at: usize, place: usize, note: Note) -> usize
-    ensures { Prints (page_of out.old at) (noteText place note) (page_of out.new result) }
+    ensures { Prints (page_of out.old at) (note_text place note) (page_of out.new result) }
 {
     match note {
         Note::Nothing => at,
@@ -150,7 +150,7 @@ pub fn print_note(out: &mut [u8], at: usize, place: usize, note: Note) -> usize
 
 // A byte that SO showed.
 fn print_byte(out: &mut [u8], at: usize, place: usize, byte: u8) -> usize
-    ensures { Prints (page_of out.old at) (byteLine place byte) (page_of out.new result) }
+    ensures { Prints (page_of out.old at) (byte_line place byte) (page_of out.new result) }
 {
     let next = begin(out, at, place, b"shown ");
     let next = print_hex(out, next, byte);
@@ -159,7 +159,7 @@ fn print_byte(out: &mut [u8], at: usize, place: usize, byte: u8) -> usize
 
 // What SO showed, where it is a whole byte.
 pub fn print_shown(out: &mut [u8], at: usize, place: usize, taken: Taken) -> usize
-    ensures { Prints (page_of out.old at) (shownText place taken) (page_of out.new result) }
+    ensures { Prints (page_of out.old at) (shown_text place taken) (page_of out.new result) }
 {
     match taken {
         Taken::Part(_) => at,
@@ -169,7 +169,7 @@ pub fn print_shown(out: &mut [u8], at: usize, place: usize, taken: Taken) -> usi
 
 // A refusal.
 pub fn print_refused(out: &mut [u8], at: usize, place: usize, row: u8) -> usize
-    ensures { Prints (page_of out.old at) (refusedLine place row) (page_of out.new result) }
+    ensures { Prints (page_of out.old at) (refused_line place row) (page_of out.new result) }
 {
     let next = begin(out, at, place, b"refused ");
     let next = print_decimal(out, next, row as u64);
@@ -186,7 +186,7 @@ fn grown(before: u64, after: u64) -> u64
 
 // A word, and how much a count grew.
 fn print_grown(out: &mut [u8], at: usize, word: &[u8], before: u64, after: u64) -> usize
-    ensures { Prints (page_of out.old at) (grownText word.now before after) (page_of out.new result) }
+    ensures { Prints (page_of out.old at) (grown_text word.now before after) (page_of out.new result) }
 {
     let more = grown(before, after);
     let next = print(out, at, word);
@@ -202,7 +202,7 @@ pub fn print_run(
     before: Record,
     after: Record,
 ) -> usize
-    ensures { Prints (page_of out.old at) (runLine place pulses before after) (page_of out.new result) }
+    ensures { Prints (page_of out.old at) (run_line place pulses before after) (page_of out.new result) }
 {
     let next = begin(out, at, place, b"run: pulses ");
     let next = print_decimal(out, next, pulses);
@@ -214,7 +214,7 @@ pub fn print_run(
 
 // A select that is open at the end.
 pub fn print_left(out: &mut [u8], at: usize, stand: Stand) -> usize
-    ensures { Prints (page_of out.old at) (leftLine stand) (page_of out.new result) }
+    ensures { Prints (page_of out.old at) (left_line stand) (page_of out.new result) }
 {
     let told = stand.told;
     let next = print(out, at, b"end: select ");
@@ -226,7 +226,7 @@ pub fn print_left(out: &mut [u8], at: usize, stand: Stand) -> usize
 
 // The end.
 pub fn print_end(out: &mut [u8], at: usize, kept: u8, latch: bool) -> usize
-    ensures { Prints (page_of out.old at) (endLine kept latch) (page_of out.new result) }
+    ensures { Prints (page_of out.old at) (end_line kept latch) (page_of out.new result) }
 {
     let next = print(out, at, b"end: kept bits ");
     let next = print_hex(out, next, kept);

@@ -1,7 +1,7 @@
 // Words of the story: reasons, commands by name, and what to do about a refusal.
 ghost use Rattle.turns.specs.Page.{page_of};
 ghost use Rattle.words.specs.Prints.{Prints};
-ghost use Rattle.words.specs.Words.{reasonText, commandText, adviceText};
+ghost use Rattle.words.specs.Words.{reason_text, command_text, advice_text};
 
 use crate::page::print;
 use parts::commands::Command;
@@ -9,7 +9,7 @@ use parts::guards::Reason;
 
 // Why a byte was held back.
 pub fn print_reason(out: &mut [u8], at: usize, reason: Reason) -> usize
-    ensures { Prints (page_of out.old at) (reasonText reason) (page_of out.new result) }
+    ensures { Prints (page_of out.old at) (reason_text reason) (page_of out.new result) }
 {
     match reason {
         Reason::LatchOff => print(out, at, b"latch off"),
@@ -20,7 +20,7 @@ pub fn print_reason(out: &mut [u8], at: usize, reason: Reason) -> usize
 
 // A command's name.
 pub fn print_command(out: &mut [u8], at: usize, command: Command) -> usize
-    ensures { Prints (page_of out.old at) (commandText command) (page_of out.new result) }
+    ensures { Prints (page_of out.old at) (command_text command) (page_of out.new result) }
 {
     match command {
         Command::Wren => print(out, at, b"WREN"),
@@ -39,7 +39,7 @@ pub fn print_command(out: &mut [u8], at: usize, command: Command) -> usize
 
 // What a refusal means, and what to do about it.
 pub fn print_advice(out: &mut [u8], at: usize, row: u8) -> usize
-    ensures { Prints (page_of out.old at) (adviceText row) (page_of out.new result) }
+    ensures { Prints (page_of out.old at) (advice_text row) (page_of out.new result) }
 {
     match row {
         1 => print(out, at, b": no such part; begin with the part, 1 to 5"),

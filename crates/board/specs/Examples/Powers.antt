@@ -1,10 +1,10 @@
 -- Power-ups of boards: "13, 1, 2, 3, each over all chips". Assumes nothing.
 use Rattle.std.specs.Prelude.{ℕ, Bool, true, ◌&&◌, List, [], ◌∷◌, ◌++◌, eqb, length, drop, replicate}
-use Rattle.pins.specs.Levels.{atRest}
+use Rattle.pins.specs.Levels.{at_rest}
 use Rattle.pins.specs.declared.state.State.{State}
 use Rattle.chip.specs.Examples.Run.{same}
-use Rattle.board.specs.Examples.Events.{boardOf, numbersOf}
-use Rattle.board.specs.Power.{powerUp}
+use Rattle.board.specs.Examples.Events.{board_of, numbers_of}
+use Rattle.board.specs.Power.{power_up}
 use Rattle.board.specs.declared.chips.Board.{Board}
 use Rattle.board.specs.declared.power.Asked.{Asked}
 use Rattle.board.specs.declared.power.Plan.{Plan}
@@ -26,18 +26,18 @@ pub record Case : Type 0 where
 
 -- "A refused power-up returns part 1 in the off state with kept bits 0": in every place, and no chip is there
 abbrev fails : ℕ → List Asked → ℕ → ℕ → Case
-fails n qs len number = record { plan = plan_of n qs; len = len; number = number; board = boardOf [] }
+fails n qs len number = record { plan = plan_of n qs; len = len; number = number; board = board_of [] }
 
 abbrev starts : List Asked → ℕ → List State → Case
-starts qs len ss = record { plan = plan_of (length qs) qs; len = len; number = 0; board = boardOf ss }
+starts qs len ss = record { plan = plan_of (length qs) qs; len = len; number = 0; board = board_of ss }
 
 abbrev gives : Case → PoweredBoard → Bool
 gives c p =
-    eqb p.refusal c.number && eqb p.board.count c.board.count && same (numbersOf p.board.chips) (numbersOf c.board.chips)
+    eqb p.refusal c.number && eqb p.board.count c.board.count && same (numbers_of p.board.chips) (numbers_of c.board.chips)
 
-abbrev pub allGive : List Case → Bool
-allGive [] = true
-allGive (c ∷ cs) = gives c (powerUp c.plan (replicate c.len 0)) && allGive cs
+abbrev pub all_give : List Case → Bool
+all_give [] = true
+all_give (c ∷ cs) = gives c (power_up c.plan (replicate c.len 0)) && all_give cs
 
 unfoldable pub powers : List Case
 powers =
@@ -50,10 +50,10 @@ powers =
     ∷ fails 2 (ask 1 0 ∷ ask 3 0x8C ∷ []) 2559 2 ∷ fails 2 (ask 1 0 ∷ ask 3 0x8C ∷ []) 2561 2 ∷ fails 2 (ask 1 0x01 ∷ ask 1 0 ∷ []) 512 2
     -- 3 of any chip, by its own part's mask
     ∷ fails 2 (ask 1 0x01 ∷ ask 1 0 ∷ []) 1024 3 ∷ fails 2 (ask 3 0x80 ∷ ask 2 0x80 ∷ []) 2560 3 ∷ fails 1 (ask 1 256 ∷ []) 512 3
-    ∷ starts (ask 1 0x0C ∷ ask 3 0x8C ∷ []) 2560 (atRest 1 0x0C true ∷ atRest 3 0x8C true ∷ [])
-    ∷ starts (ask 2 0x08 ∷ []) 512 (atRest 2 0x08 true ∷ [])
-    ∷ starts (ask 4 0x8C ∷ ask 1 0 ∷ []) 16896 (atRest 4 0x8C true ∷ atRest 1 0 true ∷ [])
+    ∷ starts (ask 1 0x0C ∷ ask 3 0x8C ∷ []) 2560 (at_rest 1 0x0C true ∷ at_rest 3 0x8C true ∷ [])
+    ∷ starts (ask 2 0x08 ∷ []) 512 (at_rest 2 0x08 true ∷ [])
+    ∷ starts (ask 4 0x8C ∷ ask 1 0 ∷ []) 16896 (at_rest 4 0x8C true ∷ at_rest 1 0 true ∷ [])
     -- part 5 "takes no serial"
-    ∷ starts (ask 5 0x8C ∷ ask 1 0 ∷ []) 16896 (atRest 5 0x8C true ∷ atRest 1 0 true ∷ [])
-    ∷ starts (replicate 8 (ask 1 0)) 4096 (replicate 8 (atRest 1 0 true))
+    ∷ starts (ask 5 0x8C ∷ ask 1 0 ∷ []) 16896 (at_rest 5 0x8C true ∷ at_rest 1 0 true ∷ [])
+    ∷ starts (replicate 8 (ask 1 0)) 4096 (replicate 8 (at_rest 1 0 true))
     ∷ []

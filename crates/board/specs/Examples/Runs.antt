@@ -3,8 +3,8 @@ use Rattle.std.specs.Prelude.{ℕ, ◌+◌, Bool, true, cond, ◌&&◌, List, []
 use Rattle.trace.specs.Items.{clocked}
 use Rattle.chip.specs.Examples.Run.{same}
 use Rattle.board.specs.Event.{Outcome, event}
-use Rattle.board.specs.Run.{Held, Sent, fromPowerUp}
-use Rattle.board.specs.So.{soNumber}
+use Rattle.board.specs.Run.{Held, Sent, from_power_up}
+use Rattle.board.specs.So.{so_number}
 use Rattle.board.specs.declared.power.Plan.{Plan}
 
 -- what is sent: own lines by chip and code, shared lines by code
@@ -21,7 +21,7 @@ byte value = shared (clocked value)
 -- what is told: SO where it is not released, and 100 more than each refusal
 abbrev told : Outcome → List ℕ → List ℕ
 told o more =
-    cond (eqb o.refusal 0) (cond (eqb (soNumber o.so) 2) more (soNumber o.so ∷ more)) ((100 + o.refusal) ∷ more)
+    cond (eqb o.refusal 0) (cond (eqb (so_number o.so) 2) more (so_number o.so ∷ more)) ((100 + o.refusal) ∷ more)
 
 pub record Ran : Type 0 where
   pub told : List ℕ
@@ -49,9 +49,9 @@ pub record Case : Type 0 where
 abbrev holds : Case → Ran → Bool
 holds c r = same r.told c.told && same r.slice c.slice
 
-abbrev pub allRun : List Case → Bool
-allRun [] = true
-allRun (c ∷ cs) = holds c (ran (fromPowerUp plan blank []) c.events) && allRun cs
+abbrev pub all_run : List Case → Bool
+all_run [] = true
+all_run (c ∷ cs) = holds c (ran (from_power_up plan blank []) c.events) && all_run cs
 
 abbrev runs : List Sent → List ℕ → List ℕ → Case
 runs events told slice = record { events = events; told = told; slice = slice }

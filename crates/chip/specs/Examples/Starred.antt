@@ -2,8 +2,8 @@
 use Rattle.std.specs.Prelude.{true, false, List, [], ◌∷◌, ◌++◌}
 use Rattle.parts.specs.declared.guards.Reason.TheVariants.{LatchOff, Protect, Block}
 use Rattle.select.specs.declared.notes.Note.TheVariants.{Latch, Stored, HeldBack, KeptSet, KeptHeldBack, PowerLost}
-use Rattle.pins.specs.Levels.{atRest}
-use Rattle.chip.specs.Examples.Run.{Example, accepts, writes, idle, wpLow, begins, transfer, clocks, wren}
+use Rattle.pins.specs.Levels.{at_rest}
+use Rattle.chip.specs.Examples.Run.{Example, accepts, writes, idle, wp_low, begins, transfer, clocks, wren}
 
 -- "Array 00 and part 1 unless said; each transfer is one select.", but for the 00: "the fresh array is now FF, in replay and
 -- document 01's examples too" (document 02, Wish 6)
@@ -36,7 +36,7 @@ starred =
     ∷ writes 1 0
     (8 ∷ wren ++ transfer (0x02 ∷ 0x00 ∷ 0x55 ∷ []))
     (Latch true ∷ HeldBack 0x000 Protect ∷ Latch false ∷ [])
-    (wpLow (idle 1 0 false true))
+    (wp_low (idle 1 0 false true))
     -- 9. "Part 3: WREN; 02 FF FF 33: 7FFh = 33."
     ∷ writes 3 0
     (wren ++ transfer (0x02 ∷ 0xFF ∷ 0xFF ∷ 0x33 ∷ []))
@@ -46,7 +46,7 @@ starred =
     ∷ writes 3 0x80
     (8 ∷ wren ++ transfer (0x01 ∷ 0x0C ∷ []))
     (Latch true ∷ KeptHeldBack Protect ∷ Latch false ∷ [])
-    (wpLow (idle 3 0x80 false false))
+    (wp_low (idle 3 0x80 false false))
     -- 11. "WREN; 01 FF: kept 0Ch; on part 3, 8Ch."
     ∷ writes 1 0 (wren ++ transfer (0x01 ∷ 0xFF ∷ [])) (Latch true ∷ KeptSet 0x0C ∷ Latch false ∷ []) (idle 1 0x0C false true)
     ∷ writes 3 0 (wren ++ transfer (0x01 ∷ 0xFF ∷ [])) (Latch true ∷ KeptSet 0x8C ∷ Latch false ∷ []) (idle 3 0x8C false true)
@@ -55,5 +55,5 @@ starred =
     ∷ writes 1 0
     (wren ++ begins (0x02 ∷ 0x20 ∷ 0x11 ∷ 0x22 ∷ []) ++ clocks 4 0x33 ++ (10 ∷ 11 ∷ []))
     (Latch true ∷ Stored 0x020 0x11 ∷ Stored 0x021 0x22 ∷ PowerLost ∷ [])
-    (atRest 1 0 true)
+    (at_rest 1 0 true)
     ∷ []

@@ -10,17 +10,17 @@ use Rattle.std.proofs.Math.Pow as Pow
 use Rattle.std.proofs.Math.Pow.{suc_ones, high}
 use Rattle.parts.specs.FigureLaws.{Fair}
 use Rattle.parts.specs.declared.figures.Figure.{Figure}
-use Rattle.stages.specs.Address.{codePage, upperPage, nextAddress}
+use Rattle.stages.specs.Address.{code_page, upper_page, next_address}
 use Rattle.history.specs.Bytes.{Byte, top_bit, number}
 
-not-zero : (n : ℕ) → 0 < n → eqb n 0 ≡ false
-not-zero n h = ne_eqb n 0 (λ e. omega arith)
+not_zero : (n : ℕ) → 0 < n → eqb n 0 ≡ false
+not_zero n h = ne_eqb n 0 (λ e. omega arith)
 
 -- the page that the chip takes from the op-code is its top bit
-page-bit : (x p : ℕ) → x < 2 → 0 < p → cond (eqb (x * p) 0) 0 1 ≡ x
-page-bit zero p h l = rw zero-mul
-page-bit (suc zero) p h l = rw (one-mul, not-zero p l)
-page-bit (suc (suc x)) p h l = absurd (omega arith)
+page_bit : (x p : ℕ) → x < 2 → 0 < p → cond (eqb (x * p) 0) 0 1 ≡ x
+page_bit zero p h l = rw zero-mul
+page_bit (suc zero) p h l = rw (one-mul, not_zero p l)
+page_bit (suc (suc x)) p h l = absurd (omega arith)
 
 one_bit : (n k : ℕ) → bit_and n (2 ^ k) ≡ (n / 2 ^ k % 2) * 2 ^ k
 one_bit n k = rw (pow-add 2 1 k, double (2 ^ k)) at (and_high n 1 k)
@@ -43,20 +43,20 @@ module _ (f : Figure) (fair : Fair f) where
   size_is : f.size ≡ 2 ^ fair.bits * 256
   size_is = rw (fair.pages, fair.low, add-one, suc_ones)
 
-  size-pos : 0 < f.size
-  size-pos = rw fair.pages (omega arith)
+  size_pos : 0 < f.size
+  size_pos = rw fair.pages (omega arith)
 
-  pub next_place : (n : ℕ) → nextAddress f (n % f.size) ≡ (n + 1) % f.size
-  unfolding nextAddress
-  next_place n = rolls f.size (n % f.size) (mod-lt n size-pos) ∙ mod-add-mod n f.size 1
+  pub next_place_lem : (n : ℕ) → next_address f (n % f.size) ≡ (n + 1) % f.size
+  unfolding next_address
+  next_place_lem n = rolls f.size (n % f.size) (mod-lt n size_pos) ∙ mod-add-mod n f.size 1
 
   -- the address by page and byte is the address as one number
-  pub start-one :
+  pub start_one :
       (code : ℕ) (b : Byte) (k : ℕ) → f.top ≡ 2 ^ k → b.value < 256
-      → codePage f code * 256 + b.value ≡ (number (top_bit f code) (b ∷ []) % f.size + 0) % f.size
+      → code_page f code * 256 + b.value ≡ (number (top_bit f code) (b ∷ []) % f.size + 0) % f.size
   unfolding top_bit number
-  start-one code b k t h =
-      rw (add-zero, mod-mod, t, one_bit code k, page-bit (code / 2 ^ k % 2) (2 ^ k) bit (pow_pos k), not-zero (2 ^ k) (pow_pos k))
+  start_one code b k t h =
+      rw (add-zero, mod-mod, t, one_bit code k, page_bit (code / 2 ^ k % 2) (2 ^ k) bit (pow_pos k), not_zero (2 ^ k) (pow_pos k))
       (sym (mod-eq_of_lt below))
     where
       bit : code / 2 ^ k % 2 < 2
@@ -65,11 +65,11 @@ module _ (f : Figure) (fair : Fair f) where
       below : code / 2 ^ k % 2 * 256 + b.value < f.size
       below = rw fair.pages (omega (arith, fair.top))
 
-  pub start-two :
+  pub start_two :
       (code : ℕ) (u b : Byte) → f.top ≡ 0 → b.value < 256
-      → upperPage f u.value * 256 + b.value ≡ (number (top_bit f code) (u ∷ b ∷ []) % f.size + 0) % f.size
+      → upper_page f u.value * 256 + b.value ≡ (number (top_bit f code) (u ∷ b ∷ []) % f.size + 0) % f.size
   unfolding top_bit number
-  start-two code u b t h =
+  start_two code u b t h =
       rw (add-zero, mod-mod, t, size_is, fair.low, zero-add, and_mask u.value fair.bits, split, high u.value 8 h, Pow.low u.value 8 h)
     where
       split :

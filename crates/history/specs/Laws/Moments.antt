@@ -7,51 +7,51 @@ use Rattle.std.proofs.Math.Path.{refl, ap}
 use Rattle.std.proofs.Math.Dec.{leb}
 use borrow.Author.Tests.{leb-true, eq-eqb, ne_eqb}
 use Rattle.parts.specs.FigureLaws.{Fair, fair}
-use Rattle.parts.specs.Figures.{figureOf, isPart, inMask, fitsSerial}
-use Rattle.pins.specs.Levels.{atRest}
+use Rattle.parts.specs.Figures.{figure_of, is_part, in_mask, fits_serial}
+use Rattle.pins.specs.Levels.{at_rest}
 use Rattle.step.specs.Step as chip
-use Rattle.chip.specs.EventLaws.{event-steps, checks-none}
+use Rattle.chip.specs.EventLaws.{event_steps, checks_none}
 use Rattle.step.specs.Step.{step, live, written}
 use Rattle.chip.specs.Event.{answer_of, checks, event}
-use Rattle.chip.specs.Run.{Chip, poweredUp, answered, next, run}
-use Rattle.chip.specs.RunLaws.{next-length, next-sound}
-use Rattle.pins.specs.SoundLaws.{rest-sound}
+use Rattle.chip.specs.Run.{Chip, powered_up, answered, next, run}
+use Rattle.chip.specs.RunLaws.{next_length, next_sound}
+use Rattle.pins.specs.SoundLaws.{rest_sound}
 use Rattle.pins.specs.Sound.{sound}
 use Rattle.pins.specs.declared.hold.Hold.TheVariants.{High}
 use Rattle.stages.specs.declared.stage.Line.TheVariants.{Down, Up}
 use Rattle.stages.specs.declared.stage.Stage.TheVariants.{Closed}
 use Rattle.pins.specs.declared.state.State.{State}
 use Rattle.chip.specs.declared.event.Answer.{Answer}
-use Rattle.history.specs.Wire.{Wire, rest, refusal, afterOne, afterAll, act, acts, passes}
+use Rattle.history.specs.Wire.{Wire, rest, refusal, after_one, after_all, act, acts, passes}
 use Rattle.history.specs.History.{World, history}
-use Rattle.history.specs.Run.{worldOf}
-use Rattle.history.specs.Laws.Place.{Place, outside, worldAt, placeAfter, base, from, from-now, from_next}
-use Rattle.history.specs.Laws.Select.{closed, select-world}
-use Rattle.history.specs.Laws.Step.{Agrees, off, on, unlatched, offChip, Onward, follows, refuses}
+use Rattle.history.specs.Run.{world_of}
+use Rattle.history.specs.Laws.Place.{Place, outside, world_at, place_after, base, from, from_now, from_next}
+use Rattle.history.specs.Laws.Select.{closed, select_world}
+use Rattle.history.specs.Laws.Step.{Agrees, off, on, unlatched, off_chip, Onward, follows, refuses}
 
 -- an event that the checks let through, and one that they don't know
 module _
-    (own xs : List ℕ) (s : State) (good : sound s ≡ true) (fits : length xs ≡ (figureOf s.part).size)
-    (takes : fitsSerial s.part (length own) ≡ true) (code : ℕ)
+    (own xs : List ℕ) (s : State) (good : sound s ≡ true) (fits : length xs ≡ (figure_of s.part).size)
+    (takes : fits_serial s.part (length own) ≡ true) (code : ℕ)
   where
-    event-step : leb 12 code ≡ false → event own xs s code ≡ answer_of (step (figureOf s.part) own xs s code)
-    event-step e = event-steps own xs s code (eq-eqb _ _ (checks-none own xs s code good (eq-eqb _ _ fits) takes e))
+    event_step : leb 12 code ≡ false → event own xs s code ≡ answer_of (step (figure_of s.part) own xs s code)
+    event_step e = event_steps own xs s code (eq-eqb _ _ (checks_none own xs s code good (eq-eqb _ _ fits) takes e))
 
-    event-unknown : leb 12 code ≡ true → event own xs s code ≡ answer_of (chip.refused 5 s)
+    event_unknown : leb 12 code ≡ true → event own xs s code ≡ answer_of (chip.refused 5 s)
     unfolding event checks
-    event-unknown e = rw (good, eq-eqb _ _ fits, takes, e)
+    event_unknown e = rw (good, eq-eqb _ _ fits, takes, e)
 
 either_way : {A : Type 0} (t : Bool) (a : A) → cond t a a ≡ a
 either_way true a = refl
 either_way false a = refl
 
-unknown-stays : (l : Wire) (code : ℕ) → leb 12 code ≡ true → afterOne l code ≡ l
-unfolding afterOne refusal
-unknown-stays l code e = rw e
+unknown_stays : (l : Wire) (code : ℕ) → leb 12 code ≡ true → after_one l code ≡ l
+unfolding after_one refusal
+unknown_stays l code e = rw e
 
-unknown-passes : (l : Wire) (code : ℕ) → leb 12 code ≡ true → act l code ≡ passes
+unknown_passes : (l : Wire) (code : ℕ) → leb 12 code ≡ true → act l code ≡ passes
 unfolding act
-unknown-passes l code e =
+unknown_passes l code e =
     rw (other 10 (omega arith), other 0 (omega arith), other 1 (omega arith), other 3 (omega arith), other 2 (omega arith)) (either_way (not l.power) passes)
   where
     large : 12 ≤ code
@@ -64,68 +64,68 @@ unknown-passes l code e =
 pub record Moment (part : ℕ) (l : Wire) (p : Place) (w : World) (c : Chip) : Type 0 where
   pub agrees : Agrees part l p w c
   pub good : sound c.state ≡ true
-  pub fits : length c.array ≡ (figureOf part).size
-  pub takes : fitsSerial part (length c.serial) ≡ true
+  pub fits : length c.array ≡ (figure_of part).size
+  pub takes : fits_serial part (length c.serial) ≡ true
 
 -- the chip is the part's
-pub own-part : {part : ℕ} {l : Wire} {p : Place} {w : World} {c : Chip} → Agrees part l p w c → c.state.part ≡ part
-own-part (off own kept array) = refl
-own-part (on own p w v sck si wp hold stage s) = refl
+pub own_part : {part : ℕ} {l : Wire} {p : Place} {w : World} {c : Chip} → Agrees part l p w c → c.state.part ≡ part
+own_part (off own kept array) = refl
+own_part (on own p w v sck si wp hold stage s) = refl
 
-world-of :
+world_of_lem :
     {part : ℕ} {l : Wire} {p : Place} {w : World} {c : Chip} → Agrees part l p w c
-    → worldOf c ≡ worldAt (figureOf part) w p
-unfolding worldAt
-world-of (off own kept array) = refl
-world-of {part} (on own p w v sck si wp hold stage s) = select-world (figureOf part) w s
+    → world_of c ≡ world_at (figure_of part) w p
+unfolding world_at
+world_of_lem (off own kept array) = refl
+world_of_lem {part} (on own p w v sck si wp hold stage s) = select_world (figure_of part) w s
 
-module _ (part : ℕ) (fair : Fair (figureOf part)) {l : Wire} {p : Place} {w : World} {c : Chip} (m : Moment part l p w c) where
-  sized : length c.array ≡ (figureOf c.state.part).size
-  sized = rw (own-part m.agrees) m.fits
+module _ (part : ℕ) (fair : Fair (figure_of part)) {l : Wire} {p : Place} {w : World} {c : Chip} (m : Moment part l p w c) where
+  sized : length c.array ≡ (figure_of c.state.part).size
+  sized = rw (own_part m.agrees) m.fits
 
-  numbered : fitsSerial c.state.part (length c.serial) ≡ true
-  numbered = rw (own-part m.agrees) m.takes
+  numbered : fits_serial c.state.part (length c.serial) ≡ true
+  numbered = rw (own_part m.agrees) m.takes
 
-  event-own : (code : ℕ) → leb 12 code ≡ false → event c.serial c.array c.state code ≡ answer_of (step (figureOf part) c.serial c.array c.state code)
-  event-own code e =
-      event-step c.serial c.array c.state m.good sized numbered code e
-      ∙ ap (λ (k : ℕ). answer_of (step (figureOf k) c.serial c.array c.state code)) (own-part m.agrees)
+  event_own : (code : ℕ) → leb 12 code ≡ false → event c.serial c.array c.state code ≡ answer_of (step (figure_of part) c.serial c.array c.state code)
+  event_own code e =
+      event_step c.serial c.array c.state m.good sized numbered code e
+      ∙ ap (λ (k : ℕ). answer_of (step (figure_of k) c.serial c.array c.state code)) (own_part m.agrees)
 
-  pub next-steps :
+  pub next_steps :
       (code : ℕ) → leb 12 code ≡ false
-      → next c code ≡ answered c (answer_of (step (figureOf part) c.serial c.array c.state code))
+      → next c code ≡ answered c (answer_of (step (figure_of part) c.serial c.array c.state code))
   unfolding next
-  next-steps code e = ap (answered c) (event-own code e)
+  next_steps code e = ap (answered c) (event_own code e)
 
-  next-stays : (code : ℕ) → leb 12 code ≡ true → next c code ≡ c
+  next_stays : (code : ℕ) → leb 12 code ≡ true → next c code ≡ c
   unfolding next written
-  next-stays code e = ap (answered c) (event-unknown c.serial c.array c.state m.good sized numbered code e)
+  next_stays code e = ap (answered c) (event_unknown c.serial c.array c.state m.good sized numbered code e)
 
-  agrees-next : (code : ℕ) → Onward part l p w code (next c code)
-  unfolding placeAfter base
-  agrees-next code = go (leb 12 code) refl
+  agrees_next : (code : ℕ) → Onward part l p w code (next c code)
+  unfolding place_after base
+  agrees_next code = go (leb 12 code) refl
     where
       go : (t : Bool) → leb 12 code ≡ t → Onward part l p w code (next c code)
-      go true e = rw (next-stays code e, unknown-stays l code e, unknown-passes l code e) m.agrees
-      go false e = rw (next-steps code e) (follows part fair code e m.agrees)
+      go true e = rw (next_stays code e, unknown_stays l code e, unknown_passes l code e) m.agrees
+      go false e = rw (next_steps code e) (follows part fair code e m.agrees)
 
-  pub refusal-as : (code : ℕ) → (event c.serial c.array c.state code).refusal ≡ refusal l code
+  pub refusal_as : (code : ℕ) → (event c.serial c.array c.state code).refusal ≡ refusal l code
   unfolding refusal
-  refusal-as code = go (leb 12 code) refl
+  refusal_as code = go (leb 12 code) refl
     where
       go : (t : Bool) → leb 12 code ≡ t → (event c.serial c.array c.state code).refusal ≡ refusal l code
-      go true e = rw (event-unknown c.serial c.array c.state m.good sized numbered code e, e)
-      go false e = ap (λ (a : Answer). a.refusal) (event-own code e) ∙ refuses part code e m.agrees
+      go true e = rw (event_unknown c.serial c.array c.state m.good sized numbered code e, e)
+      go false e = ap (λ (a : Answer). a.refusal) (event_own code e) ∙ refuses part code e m.agrees
 
-  pub moment-next :
+  pub moment_next :
       (code : ℕ)
-      → Moment part (afterOne l code) (placeAfter (figureOf part) p (act l code)) (base (figureOf part) w p (act l code)) (next c code)
+      → Moment part (after_one l code) (place_after (figure_of part) p (act l code)) (base (figure_of part) w p (act l code)) (next c code)
   unfolding next
-  moment-next code =
+  moment_next code =
       record {
-        agrees = agrees-next code;
-        good = next-sound c code m.good;
-        fits = next-length c code ∙ m.fits;
+        agrees = agrees_next code;
+        good = next_sound c code m.good;
+        fits = next_length c code ∙ m.fits;
         takes = m.takes;
       }
 
@@ -133,65 +133,65 @@ module _ (part : ℕ) (fair : Fair (figureOf part)) {l : Wire} {p : Place} {w : 
 pub record Reached (part : ℕ) (l : Wire) (p : Place) (w : World) (c : Chip) (codes : List ℕ) : Type 0 where
   pub place : Place
   pub before : World
-  pub moment : Moment part (afterAll l codes) place before (run c codes)
-  pub told : from (figureOf part) w p (acts l codes) ≡ worldAt (figureOf part) before place
+  pub moment : Moment part (after_all l codes) place before (run c codes)
+  pub told : from (figure_of part) w p (acts l codes) ≡ world_at (figure_of part) before place
 
 pub reached :
-    (part : ℕ) → Fair (figureOf part) → {l : Wire} {p : Place} {w : World} {c : Chip} → Moment part l p w c → (codes : List ℕ)
+    (part : ℕ) → Fair (figure_of part) → {l : Wire} {p : Place} {w : World} {c : Chip} → Moment part l p w c → (codes : List ℕ)
     → Reached part l p w c codes
-unfolding run acts afterAll
+unfolding run acts after_all
 reached part fair {l} {p} {w} {c} m [] =
-    record { place = p; before = w; moment = m; told = from-now (figureOf part) w p }
+    record { place = p; before = w; moment = m; told = from_now (figure_of part) w p }
 reached part fair {l} {p} {w} {c} m (code ∷ codes) =
-    let r = reached part fair (moment-next part fair m code) codes in
+    let r = reached part fair (moment_next part fair m code) codes in
     record {
       place = r.place;
       before = r.before;
       moment = r.moment;
-      told = from_next (figureOf part) w p (act l code) (acts (afterOne l code) codes) ∙ r.told;
+      told = from_next (figure_of part) w p (act l code) (acts (after_one l code) codes) ∙ r.told;
     }
 
 -- from power-up on
 pub started :
-    (part kept : ℕ) (array own : List ℕ) → isPart part ≡ true → inMask part kept ≡ true → length array ≡ (figureOf part).size
-    → fitsSerial part (length own) ≡ true
-    → Moment part (rest true) (outside false) (unlatched kept array) (poweredUp part kept array own)
+    (part kept : ℕ) (array own : List ℕ) → is_part part ≡ true → in_mask part kept ≡ true → length array ≡ (figure_of part).size
+    → fits_serial part (length own) ≡ true
+    → Moment part (rest true) (outside false) (unlatched kept array) (powered_up part kept array own)
 started part kept array own one under fits takes =
     record {
       agrees = on own (outside false) (unlatched kept array) (unlatched kept array) false Down Up High Closed (closed false);
-      good = rest-sound part kept true one under;
+      good = rest_sound part kept true one under;
       fits = fits;
       takes = takes;
     }
 
-pub reached-from :
-    (part kept : ℕ) (array own : List ℕ) → isPart part ≡ true → inMask part kept ≡ true → length array ≡ (figureOf part).size
-    → fitsSerial part (length own) ≡ true
-    → (codes : List ℕ) → Reached part (rest true) (outside false) (unlatched kept array) (poweredUp part kept array own) codes
-reached-from part kept array own one under fits takes = reached part (fair part one) (started part kept array own one under fits takes)
+pub reached_from :
+    (part kept : ℕ) (array own : List ℕ) → is_part part ≡ true → in_mask part kept ≡ true → length array ≡ (figure_of part).size
+    → fits_serial part (length own) ≡ true
+    → (codes : List ℕ) → Reached part (rest true) (outside false) (unlatched kept array) (powered_up part kept array own) codes
+reached_from part kept array own one under fits takes = reached part (fair part one) (started part kept array own one under fits takes)
 
-pub world-told :
-    (part kept : ℕ) (array own codes : List ℕ) → Reached part (rest true) (outside false) (unlatched kept array) (poweredUp part kept array own) codes
-    → worldOf (run (poweredUp part kept array own) codes) ≡ history part kept array codes
+pub world_told :
+    (part kept : ℕ) (array own codes : List ℕ) → Reached part (rest true) (outside false) (unlatched kept array) (powered_up part kept array own) codes
+    → world_of (run (powered_up part kept array own) codes) ≡ history part kept array codes
 unfolding history from
-world-told part kept array own codes r = world-of r.moment.agrees ∙ sym r.told
+world_told part kept array own codes r = world_of_lem r.moment.agrees ∙ sym r.told
 
-pub run-append : (c : Chip) (codes more : List ℕ) → run c (codes ++ more) ≡ run (run c codes) more
+pub run_append : (c : Chip) (codes more : List ℕ) → run c (codes ++ more) ≡ run (run c codes) more
 unfolding run
-run-append c [] more = refl
-run-append c (code ∷ codes) more = run-append (next c code) codes more
+run_append c [] more = refl
+run_append c (code ∷ codes) more = run_append (next c code) codes more
 
 -- the cut and the return of power
-cut-dark : {part : ℕ} {l : Wire} {p : Place} {w : World} {c : Chip} → Agrees part l p w c
-    → answered c (answer_of (step (figureOf part) c.serial c.array c.state 10)) ≡ offChip part c.serial c.state.kept c.array
+cut_dark : {part : ℕ} {l : Wire} {p : Place} {w : World} {c : Chip} → Agrees part l p w c
+    → answered c (answer_of (step (figure_of part) c.serial c.array c.state 10)) ≡ off_chip part c.serial c.state.kept c.array
 unfolding step live written
-cut-dark (off own kept array) = refl
-cut-dark (on own p w v sck si wp hold stage s) = refl
+cut_dark (off own kept array) = refl
+cut_dark (on own p w v sck si wp hold stage s) = refl
 
-pub cut-leaves : (part : ℕ) → Fair (figureOf part) → {l : Wire} {p : Place} {w : World} {c : Chip} → Moment part l p w c
-    → run c (10 ∷ 11 ∷ []) ≡ record { state = atRest part c.state.kept true; array = c.array; serial = c.serial }
+pub cut_leaves : (part : ℕ) → Fair (figure_of part) → {l : Wire} {p : Place} {w : World} {c : Chip} → Moment part l p w c
+    → run c (10 ∷ 11 ∷ []) ≡ record { state = at_rest part c.state.kept true; array = c.array; serial = c.serial }
 unfolding run step written
-cut-leaves part fair {c = c} m =
-    next-steps part fair (moment-next part fair m 10) 11 refl
-    ∙ ap (λ (d : Chip). answered d (answer_of (step (figureOf part) d.serial d.array d.state 11)))
-    (next-steps part fair m 10 refl ∙ cut-dark m.agrees)
+cut_leaves part fair {c = c} m =
+    next_steps part fair (moment_next part fair m 10) 11 refl
+    ∙ ap (λ (d : Chip). answered d (answer_of (step (figure_of part) d.serial d.array d.state 11)))
+    (next_steps part fair m 10 refl ∙ cut_dark m.agrees)

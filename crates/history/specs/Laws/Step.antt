@@ -8,41 +8,41 @@ use Rattle.std.proofs.Math.Path.{refl}
 use Rattle.std.proofs.Math.Dec.{eqb}
 use Rattle.std.proofs.lemmas.Bool.{eqb-false}
 use Rattle.parts.specs.FigureLaws.{Fair}
-use Rattle.parts.specs.Figures.{figureOf}
+use Rattle.parts.specs.Figures.{figure_of}
 use Rattle.stages.specs.Close.{drops}
-use Rattle.select.specs.Fall.{fall, statusByte}
+use Rattle.select.specs.Fall.{fall, status_byte}
 use Rattle.select.specs.Rise.{rise}
 use Rattle.select.specs.declared.notes.Note.TheVariants.{Latch}
-use Rattle.stages.specs.Wp.{isUp}
+use Rattle.stages.specs.Wp.{is_up}
 use Rattle.stages.specs.declared.stage.Line.{Line}
 use Rattle.stages.specs.declared.stage.Line.TheVariants.{Down, Up}
 use Rattle.stages.specs.declared.stage.Stage.{Stage}
 use Rattle.stages.specs.declared.stage.Stage.TheVariants.{Closed, Asleep}
-use Rattle.pins.specs.Levels.{atRest, holdHigh}
-use Rattle.pins.specs.Edges.{silent, csFall, csRise, sckRise, sckFall, holdFall, holdRise}
-use Rattle.step.specs.Step.{accepted, csStayed, live, step, written}
+use Rattle.pins.specs.Levels.{at_rest, hold_high}
+use Rattle.pins.specs.Edges.{silent, cs_fall, cs_rise, sck_rise, sck_fall, hold_fall, hold_rise}
+use Rattle.step.specs.Step.{accepted, cs_stayed, live, step, written}
 use Rattle.chip.specs.Event.{answer_of}
 use Rattle.chip.specs.Run.{Chip, answered}
 use Rattle.pins.specs.declared.hold.Hold.{Hold}
 use Rattle.pins.specs.declared.hold.Hold.TheVariants.{High, LowCsLow, LowCsHigh}
-use Rattle.history.specs.Wire.{Wire, rest, put, refusal, afterOne, act}
+use Rattle.history.specs.Wire.{Wire, rest, put, refusal, after_one, act}
 use Rattle.history.specs.History.{World}
-use Rattle.history.specs.Laws.Place.{Place, outside, inside, isOutside, worldAt, asleepAfter, placeAfter, base}
-use Rattle.history.specs.Laws.Stage.{shutStage}
-use Rattle.history.specs.Laws.Select.{Selected, closed, select-open, select-world, select-fall, select-fresh, select-rise, select-close, select-shut}
+use Rattle.history.specs.Laws.Place.{Place, outside, inside, is_outside, world_at, asleep_after, place_after, base}
+use Rattle.history.specs.Laws.Stage.{shut_stage}
+use Rattle.history.specs.Laws.Select.{Selected, closed, select_open, select_world, select_fall, select_fresh, select_rise, select_close, select_shut}
 
 -- the level of /CS, by /HOLD and whether no select is open
-abbrev csOf : Hold → Bool → Bool
-csOf High seen = seen
-csOf LowCsLow seen = false
-csOf LowCsHigh seen = true
+abbrev cs_of : Hold → Bool → Bool
+cs_of High seen = seen
+cs_of LowCsLow seen = false
+cs_of LowCsHigh seen = true
 
-abbrev pub wireOf : Bool → Line → Line → Hold → Bool → Wire
-wireOf sck si wp hold seen =
-    record { power = true; cs = csOf hold seen; sck = sck; si = isUp si; hold = holdHigh hold; wp = isUp wp; seen = seen }
+abbrev pub wire_of : Bool → Line → Line → Hold → Bool → Wire
+wire_of sck si wp hold seen =
+    record { power = true; cs = cs_of hold seen; sck = sck; si = is_up si; hold = hold_high hold; wp = is_up wp; seen = seen }
 
-abbrev pub chipOf : ℕ → List ℕ → World → Bool → Line → Line → Hold → Stage → Chip
-chipOf part own v sck si wp hold stage =
+abbrev pub chip_of : ℕ → List ℕ → World → Bool → Line → Line → Hold → Stage → Chip
+chip_of part own v sck si wp hold stage =
     record {
       state =
           record {
@@ -64,22 +64,22 @@ chipOf part own v sck si wp hold stage =
 abbrev pub unlatched : ℕ → List ℕ → World
 unlatched kept array = record { latch = false; kept = kept; array = array }
 
-abbrev pub offChip : ℕ → List ℕ → ℕ → List ℕ → Chip
-offChip part own kept array = record { state = atRest part kept false; array = array; serial = own }
+abbrev pub off_chip : ℕ → List ℕ → ℕ → List ℕ → Chip
+off_chip part own kept array = record { state = at_rest part kept false; array = array; serial = own }
 
 -- a chip agrees with the history, whatever its serial number: the lines, and the select with the open transfer
 pub data Agrees (part : ℕ) : Wire → Place → World → Chip → Type 0 where
   off :
       (own : List ℕ) (kept : ℕ) (array : List ℕ)
-      → Agrees part (rest false) (outside false) (unlatched kept array) (offChip part own kept array)
+      → Agrees part (rest false) (outside false) (unlatched kept array) (off_chip part own kept array)
   on :
-      (own : List ℕ) (p : Place) (w v : World) (sck : Bool) (si wp : Line) (hold : Hold) (stage : Stage) → Selected (figureOf part) w p v stage
-      → Agrees part (wireOf sck si wp hold (isOutside p)) p w (chipOf part own v sck si wp hold stage)
+      (own : List ℕ) (p : Place) (w v : World) (sck : Bool) (si wp : Line) (hold : Hold) (stage : Stage) → Selected (figure_of part) w p v stage
+      → Agrees part (wire_of sck si wp hold (is_outside p)) p w (chip_of part own v sck si wp hold stage)
 
 -- this chip agrees after an event
 abbrev pub Onward : ℕ → Wire → Place → World → ℕ → Chip → Type 0
 Onward part l p w code c =
-    Agrees part (afterOne l code) (placeAfter (figureOf part) p (act l code)) (base (figureOf part) w p (act l code)) c
+    Agrees part (after_one l code) (place_after (figure_of part) p (act l code)) (base (figure_of part) w p (act l code)) c
 
 -- what holds of each of the twelve codes holds of every code under twelve
 abbrev Each : (ℕ → Type 0) → ℕ → ℕ → Type 0
@@ -101,36 +101,36 @@ each P (suc n) k code ps l h = go (eqb k code) refl (λ m. each P n (suc k) code
     go true e later = subst P (eqb-true k code e) ps.0
     go false e later = later (above (eqb-false k code e) l)
 
-module _ (part : ℕ) (fair : Fair (figureOf part)) where
+module _ (part : ℕ) (fair : Fair (figure_of part)) where
   -- the step leads on
   abbrev Follows : Wire → Place → World → Chip → ℕ → Type 0
-  Follows l p w c code = Onward part l p w code (answered c (answer_of (step (figureOf part) c.serial c.array c.state code)))
+  Follows l p w c code = Onward part l p w code (answered c (answer_of (step (figure_of part) c.serial c.array c.state code)))
 
   module _ (own : List ℕ) (w : World) (si wp : Line) where
     -- it agrees after this event, whatever the levels of SCK and /HOLD and whatever select is open
     abbrev After : ℕ → Type 0
     After code =
-        (sck : Bool) (hold : Hold) (p : Place) (v : World) (stage : Stage) → Selected (figureOf part) w p v stage
-        → Follows (wireOf sck si wp hold (isOutside p)) p w (chipOf part own v sck si wp hold stage) code
+        (sck : Bool) (hold : Hold) (p : Place) (v : World) (stage : Stage) → Selected (figure_of part) w p v stage
+        → Follows (wire_of sck si wp hold (is_outside p)) p w (chip_of part own v sck si wp hold stage) code
 
-    cs-low : After 0
-    unfolding afterOne refusal put act placeAfter base worldAt step live csFall written
-    cs-low sck High (outside _) _ _ (closed asleep) =
-        rw (select-open (figureOf part) w (closed asleep))
-        (on own (inside asleep (isUp wp) []) w w sck si wp High _ (select-fresh (figureOf part) w asleep (isUp wp)))
-    cs-low sck High (inside woken fell es) v stage s =
-        rw (select-open (figureOf part) w s) (on own (inside woken fell es) w v sck si wp High stage s)
-    cs-low sck LowCsLow p v stage s = on own p w v sck si wp LowCsLow stage s
-    cs-low sck LowCsHigh p v stage s = on own p w v sck si wp LowCsLow stage s
+    cs_low : After 0
+    unfolding after_one refusal put act place_after base world_at step live cs_fall written
+    cs_low sck High (outside _) _ _ (closed asleep) =
+        rw (select_open (figure_of part) w (closed asleep))
+        (on own (inside asleep (is_up wp) []) w w sck si wp High _ (select_fresh (figure_of part) w asleep (is_up wp)))
+    cs_low sck High (inside woken fell es) v stage s =
+        rw (select_open (figure_of part) w s) (on own (inside woken fell es) w v sck si wp High stage s)
+    cs_low sck LowCsLow p v stage s = on own p w v sck si wp LowCsLow stage s
+    cs_low sck LowCsHigh p v stage s = on own p w v sck si wp LowCsLow stage s
 
     -- the close drops the latch, if it was set, and puts the chip to sleep or not
     abbrev shut : Bool → Bool → Bool → ℕ → List ℕ → Chip
     shut asleep sck latch kept array =
-        chipOf part own (record { latch = latch; kept = kept; array = array }) sck si wp High (shutStage asleep)
+        chip_of part own (record { latch = latch; kept = kept; array = array }) sck si wp High (shut_stage asleep)
 
     closing :
         (asleep sck latch d : Bool) (kept : ℕ) (array : List ℕ)
-        → Agrees part (wireOf sck si wp High true) (outside asleep)
+        → Agrees part (wire_of sck si wp High true) (outside asleep)
         (cond d (unlatched kept array) (record { latch = latch; kept = kept; array = array }))
         (answered (shut asleep sck latch kept array)
         (answer_of (accepted
@@ -143,71 +143,71 @@ module _ (part : ℕ) (fair : Fair (figureOf part)) where
     closing asleep sck false true kept array = on own (outside asleep) _ _ sck si wp High _ (closed asleep)
     closing asleep sck false false kept array = on own (outside asleep) _ _ sck si wp High _ (closed asleep)
 
-    cs-high : After 1
-    unfolding afterOne refusal put act placeAfter base step live csRise written
-    cs-high sck High (outside asleep) v stage s =
-        rw (select-open (figureOf part) w s) (on own (outside asleep) w v sck si wp High stage s)
-    cs-high sck High (inside woken fell es) v stage s =
-        rw (select-open (figureOf part) w s, ← select-close (figureOf part) w s, select-shut (figureOf part) w s)
-        (closing (asleepAfter (figureOf part) woken fell es) sck v.latch (drops stage) v.kept v.array)
-    cs-high sck LowCsLow p v stage s = on own p w v sck si wp LowCsHigh stage s
-    cs-high sck LowCsHigh p v stage s = on own p w v sck si wp LowCsHigh stage s
+    cs_high : After 1
+    unfolding after_one refusal put act place_after base step live cs_rise written
+    cs_high sck High (outside asleep) v stage s =
+        rw (select_open (figure_of part) w s) (on own (outside asleep) w v sck si wp High stage s)
+    cs_high sck High (inside woken fell es) v stage s =
+        rw (select_open (figure_of part) w s, ← select_close (figure_of part) w s, select_shut (figure_of part) w s)
+        (closing (asleep_after (figure_of part) woken fell es) sck v.latch (drops stage) v.kept v.array)
+    cs_high sck LowCsLow p v stage s = on own p w v sck si wp LowCsHigh stage s
+    cs_high sck LowCsHigh p v stage s = on own p w v sck si wp LowCsHigh stage s
 
-    sck-low : After 2
-    unfolding afterOne refusal put act placeAfter base step live sckFall fall written
-    sck-low true High (outside true) _ _ (closed true) = on own (outside true) w w false si wp High Asleep (closed true)
-    sck-low true High (outside false) _ _ (closed false) = on own (outside false) w w false si wp High Closed (closed false)
-    sck-low true High (inside woken fell es) v stage s =
-        on own _ w v false si wp High _ (select-fall (figureOf part) fair w own v.array (statusByte (figureOf part) v.kept v.latch) s)
-    sck-low true LowCsLow p v stage s = on own p w v false si wp LowCsLow stage s
-    sck-low true LowCsHigh p v stage s = on own p w v false si wp LowCsHigh stage s
-    sck-low false hold p v stage s = on own p w v false si wp hold stage s
+    sck_low : After 2
+    unfolding after_one refusal put act place_after base step live sck_fall fall written
+    sck_low true High (outside true) _ _ (closed true) = on own (outside true) w w false si wp High Asleep (closed true)
+    sck_low true High (outside false) _ _ (closed false) = on own (outside false) w w false si wp High Closed (closed false)
+    sck_low true High (inside woken fell es) v stage s =
+        on own _ w v false si wp High _ (select_fall (figure_of part) fair w own v.array (status_byte (figure_of part) v.kept v.latch) s)
+    sck_low true LowCsLow p v stage s = on own p w v false si wp LowCsLow stage s
+    sck_low true LowCsHigh p v stage s = on own p w v false si wp LowCsHigh stage s
+    sck_low false hold p v stage s = on own p w v false si wp hold stage s
 
-    sck-high : After 3
-    unfolding afterOne refusal put act placeAfter base step live sckRise rise written
-    sck-high false High (outside true) _ _ (closed true) = on own (outside true) w w true si wp High Asleep (closed true)
-    sck-high false High (outside false) _ _ (closed false) = on own (outside false) w w true si wp High Closed (closed false)
-    sck-high false High (inside woken fell es) v stage s =
-        on own _ w _ true si wp High _ (select-rise (figureOf part) fair w (record { si = isUp si; wp = isUp wp }) s)
-    sck-high false LowCsLow p v stage s = on own p w v true si wp LowCsLow stage s
-    sck-high false LowCsHigh p v stage s = on own p w v true si wp LowCsHigh stage s
-    sck-high true hold p v stage s = on own p w v true si wp hold stage s
+    sck_high : After 3
+    unfolding after_one refusal put act place_after base step live sck_rise rise written
+    sck_high false High (outside true) _ _ (closed true) = on own (outside true) w w true si wp High Asleep (closed true)
+    sck_high false High (outside false) _ _ (closed false) = on own (outside false) w w true si wp High Closed (closed false)
+    sck_high false High (inside woken fell es) v stage s =
+        on own _ w _ true si wp High _ (select_rise (figure_of part) fair w (record { si = is_up si; wp = is_up wp }) s)
+    sck_high false LowCsLow p v stage s = on own p w v true si wp LowCsLow stage s
+    sck_high false LowCsHigh p v stage s = on own p w v true si wp LowCsHigh stage s
+    sck_high true hold p v stage s = on own p w v true si wp hold stage s
 
-    hold-low : After 6
-    unfolding afterOne refusal put act placeAfter base step live holdFall written
-    hold-low true High p v stage s = on own p w v true si wp High stage s
-    hold-low false High (outside asleep) v stage s =
-        rw (select-open (figureOf part) w s) (on own (outside asleep) w v false si wp LowCsHigh stage s)
-    hold-low false High (inside woken fell es) v stage s =
-        rw (select-open (figureOf part) w s) (on own (inside woken fell es) w v false si wp LowCsLow stage s)
-    hold-low sck LowCsLow p v stage s = on own p w v sck si wp LowCsLow stage s
-    hold-low sck LowCsHigh p v stage s = on own p w v sck si wp LowCsHigh stage s
+    hold_low : After 6
+    unfolding after_one refusal put act place_after base step live hold_fall written
+    hold_low true High p v stage s = on own p w v true si wp High stage s
+    hold_low false High (outside asleep) v stage s =
+        rw (select_open (figure_of part) w s) (on own (outside asleep) w v false si wp LowCsHigh stage s)
+    hold_low false High (inside woken fell es) v stage s =
+        rw (select_open (figure_of part) w s) (on own (inside woken fell es) w v false si wp LowCsLow stage s)
+    hold_low sck LowCsLow p v stage s = on own p w v sck si wp LowCsLow stage s
+    hold_low sck LowCsHigh p v stage s = on own p w v sck si wp LowCsHigh stage s
 
-    hold-high : After 7
-    unfolding afterOne refusal put act placeAfter base step live csStayed holdRise written
-    hold-high sck High p v stage s = on own p w v sck si wp High stage s
-    hold-high true LowCsLow p v stage s = on own p w v true si wp LowCsLow stage s
-    hold-high true LowCsHigh p v stage s = on own p w v true si wp LowCsHigh stage s
-    hold-high false LowCsLow (outside asleep) v stage s =
-        rw (select-open (figureOf part) w s) (on own (outside asleep) w v false si wp LowCsLow stage s)
-    hold-high false LowCsHigh (outside asleep) v stage s =
-        rw (select-open (figureOf part) w s) (on own (outside asleep) w v false si wp High stage s)
-    hold-high false LowCsLow (inside woken fell es) v stage s =
-        rw (select-open (figureOf part) w s) (on own (inside woken fell es) w v false si wp High stage s)
-    hold-high false LowCsHigh (inside woken fell es) v stage s =
-        rw (select-open (figureOf part) w s) (on own (inside woken fell es) w v false si wp LowCsHigh stage s)
+    hold_high_lem : After 7
+    unfolding after_one refusal put act place_after base step live cs_stayed hold_rise written
+    hold_high_lem sck High p v stage s = on own p w v sck si wp High stage s
+    hold_high_lem true LowCsLow p v stage s = on own p w v true si wp LowCsLow stage s
+    hold_high_lem true LowCsHigh p v stage s = on own p w v true si wp LowCsHigh stage s
+    hold_high_lem false LowCsLow (outside asleep) v stage s =
+        rw (select_open (figure_of part) w s) (on own (outside asleep) w v false si wp LowCsLow stage s)
+    hold_high_lem false LowCsHigh (outside asleep) v stage s =
+        rw (select_open (figure_of part) w s) (on own (outside asleep) w v false si wp High stage s)
+    hold_high_lem false LowCsLow (inside woken fell es) v stage s =
+        rw (select_open (figure_of part) w s) (on own (inside woken fell es) w v false si wp High stage s)
+    hold_high_lem false LowCsHigh (inside woken fell es) v stage s =
+        rw (select_open (figure_of part) w s) (on own (inside woken fell es) w v false si wp LowCsHigh stage s)
 
-    any-pin : (code : ℕ) → leb 12 code ≡ false → After code
-    unfolding afterOne refusal put act placeAfter base step live written
-    any-pin code h =
+    any_pin : (code : ℕ) → leb 12 code ≡ false → After code
+    unfolding after_one refusal put act place_after base step live written
+    any_pin code h =
         each After 12 0 code
-        (cs-low also cs-high also sck-low also sck-high
+        (cs_low also cs_high also sck_low also sck_high
         also (λ sck hold p v stage s. on own p w v sck Down wp hold stage s)
         also (λ sck hold p v stage s. on own p w v sck Up wp hold stage s)
-        also hold-low also hold-high
+        also hold_low also hold_high_lem
         also (λ sck hold p v stage s. on own p w v sck si Down hold stage s)
         also (λ sck hold p v stage s. on own p w v sck si Up hold stage s)
-        also (λ sck hold p v stage s. rw (← select-world (figureOf part) w s) (off own v.kept v.array))
+        also (λ sck hold p v stage s. rw (← select_world (figure_of part) w s) (off own v.kept v.array))
         also (λ sck hold p v stage s. on own p w v sck si wp hold stage s)
         also tt)
         zero-le (leb-false 12 code h)
@@ -215,11 +215,11 @@ module _ (part : ℕ) (fair : Fair (figureOf part)) where
   -- with power off only event 11 has an effect
   darkness :
       (own : List ℕ) (kept : ℕ) (array : List ℕ) (code : ℕ) → leb 12 code ≡ false
-      → Follows (rest false) (outside false) (unlatched kept array) (offChip part own kept array) code
-  unfolding afterOne refusal act placeAfter base step written
+      → Follows (rest false) (outside false) (unlatched kept array) (off_chip part own kept array) code
+  unfolding after_one refusal act place_after base step written
   darkness own kept array code h = go (eqb code 11) refl
     where
-      go : (t : Bool) → eqb code 11 ≡ t → Follows (rest false) (outside false) (unlatched kept array) (offChip part own kept array) code
+      go : (t : Bool) → eqb code 11 ≡ t → Follows (rest false) (outside false) (unlatched kept array) (off_chip part own kept array) code
       go true e = rw (h, e) (on own (outside false) (unlatched kept array) (unlatched kept array) false Down Up High Closed (closed false))
       go false e = rw (h, e) (off own kept array)
 
@@ -227,35 +227,35 @@ module _ (part : ℕ) (fair : Fair (figureOf part)) where
       {l : Wire} {p : Place} {w : World} {c : Chip} (code : ℕ) → leb 12 code ≡ false → Agrees part l p w c
       → Follows l p w c code
   follows code h (off own kept array) = darkness own kept array code h
-  follows code h (on own p w v sck si wp hold stage s) = any-pin own w si wp code h sck hold p v stage s
+  follows code h (on own p w v sck si wp hold stage s) = any_pin own w si wp code h sck hold p v stage s
 
 -- The chip refuses what the lines say is refused, by the same number: with power on only a move of /HOLD.
 module _ (part : ℕ) where
   abbrev Refuses : Wire → Chip → ℕ → Type 0
-  Refuses l c code = (step (figureOf part) c.serial c.array c.state code).refusal ≡ refusal l code
+  Refuses l c code = (step (figure_of part) c.serial c.array c.state code).refusal ≡ refusal l code
 
   module _ (own : List ℕ) (p : Place) (v : World) (si wp : Line) (stage : Stage) where
     abbrev Alike : Bool → Hold → ℕ → Type 0
-    Alike sck hold code = Refuses (wireOf sck si wp hold (isOutside p)) (chipOf part own v sck si wp hold stage) code
+    Alike sck hold code = Refuses (wire_of sck si wp hold (is_outside p)) (chip_of part own v sck si wp hold stage) code
 
-    fall-alike : (sck : Bool) (hold : Hold) → Alike sck hold 6
+    fall_alike : (sck : Bool) (hold : Hold) → Alike sck hold 6
     unfolding refusal step live
-    fall-alike true High = refl
-    fall-alike false High = refl
-    fall-alike sck LowCsLow = refl
-    fall-alike sck LowCsHigh = refl
+    fall_alike true High = refl
+    fall_alike false High = refl
+    fall_alike sck LowCsLow = refl
+    fall_alike sck LowCsHigh = refl
 
-  rise-alike :
-      (own : List ℕ) {p : Place} {w v : World} (si wp : Line) {stage : Stage} (sck : Bool) (hold : Hold) → Selected (figureOf part) w p v stage
+  rise_alike :
+      (own : List ℕ) {p : Place} {w v : World} (si wp : Line) {stage : Stage} (sck : Bool) (hold : Hold) → Selected (figure_of part) w p v stage
       → Alike own p v si wp stage sck hold 7
-  unfolding refusal step live csStayed
-  rise-alike own si wp sck High s = refl
-  rise-alike own si wp true LowCsLow s = refl
-  rise-alike own si wp true LowCsHigh s = refl
-  rise-alike own {p = outside asleep} {w = w} si wp false LowCsLow s = rw (select-open (figureOf part) w s)
-  rise-alike own {p = outside asleep} {w = w} si wp false LowCsHigh s = rw (select-open (figureOf part) w s)
-  rise-alike own {p = inside woken fell es} {w = w} si wp false LowCsLow s = rw (select-open (figureOf part) w s)
-  rise-alike own {p = inside woken fell es} {w = w} si wp false LowCsHigh s = rw (select-open (figureOf part) w s)
+  unfolding refusal step live cs_stayed
+  rise_alike own si wp sck High s = refl
+  rise_alike own si wp true LowCsLow s = refl
+  rise_alike own si wp true LowCsHigh s = refl
+  rise_alike own {p = outside asleep} {w = w} si wp false LowCsLow s = rw (select_open (figure_of part) w s)
+  rise_alike own {p = outside asleep} {w = w} si wp false LowCsHigh s = rw (select_open (figure_of part) w s)
+  rise_alike own {p = inside woken fell es} {w = w} si wp false LowCsLow s = rw (select_open (figure_of part) w s)
+  rise_alike own {p = inside woken fell es} {w = w} si wp false LowCsHigh s = rw (select_open (figure_of part) w s)
 
   pub refuses : {l : Wire} {p : Place} {w : World} {c : Chip} (code : ℕ) → leb 12 code ≡ false → Agrees part l p w c → Refuses l c code
   unfolding refusal step live
@@ -263,6 +263,6 @@ module _ (part : ℕ) where
   refuses code h (on own p w v sck si wp hold stage s) =
       each (Alike own p v si wp stage sck hold) 12 0 code
       (refl also refl also refl also refl also refl also refl
-      also fall-alike own p v si wp stage sck hold also rise-alike own si wp sck hold s
+      also fall_alike own p v si wp stage sck hold also rise_alike own si wp sck hold s
       also refl also refl also refl also refl also tt)
       zero-le (leb-false 12 code h)

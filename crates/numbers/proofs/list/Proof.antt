@@ -1,7 +1,7 @@
 -- `list` ends: a number that is read leaves less of the slice to read.
 use lib.ListN.{length}
 use Prim.Native.Nat.{◌-◌}
-use Rattle.trace.specs.NumberLaws.{less-left}
+use Rattle.trace.specs.NumberLaws.{less_left}
 use borrow.Author.Rules.{rules}
 use Rattle.numbers.proofs.list.Statement.{statement}
 use Rattle.numbers.proofs.list.Tie as tie
@@ -17,5 +17,5 @@ list-spec =
     tie.close
     (tie.spec
     invariant-loop decreases-loop (λ c. search rules) (λ c κs. search rules) (λ c. search rules) (λ c κs. search rules)
-    (λ c κs. search rules) (λ c. search less-left) (λ c. search rules) (λ c. search rules) (λ c κs. search rules)
+    (λ c κs. search rules) (λ c. search less_left) (λ c. search rules) (λ c. search rules) (λ c κs. search rules)
     (λ c. search rules) (λ c. search rules) (λ c κs. search rules) (λ c. search rules))

@@ -2,12 +2,12 @@
 -- tells the rule from a way in which it could be misread. Assumes nothing.
 use Rattle.std.specs.Prelude.{ℕ, Bool, true, ◌&&◌, List, [], ◌∷◌, ◌++◌, eqb, replicate, set}
 use Rattle.trace.specs.Items.{clocked}
-use Rattle.parts.specs.Figures.{figureOf}
+use Rattle.parts.specs.Figures.{figure_of}
 use Rattle.pins.specs.declared.state.State.{State}
-use Rattle.chip.specs.Examples.Run.{begins, blank, clockAll, clocks, ownSerial, same, transfer, wren}
-use Rattle.chip.specs.Run.{Chip, poweredUp, run}
-use Rattle.wear.specs.Count.{counted, rowCount}
-use Rattle.wear.specs.Run.{Worn, countOne, countRun, unworn}
+use Rattle.chip.specs.Examples.Run.{begins, blank, clock_all, clocks, own_serial, same, transfer, wren}
+use Rattle.chip.specs.Run.{Chip, powered_up, run}
+use Rattle.wear.specs.Count.{counted, row_count}
+use Rattle.wear.specs.Run.{Worn, count_one, count_run, unworn}
 
 -- a row's counter; of a list of them no other is above 0
 pub record Count : Type 0 where
@@ -41,20 +41,20 @@ pub record Wear : Type 0 where
 abbrev wears : ℕ → List ℕ → List Count → Wear
 wears part events counts = record { part = part; turns = counting events ∷ []; counts = counts }
 
-abbrev byTurns : ℕ → List Turn → List Count → Wear
-byTurns part turns counts = record { part = part; turns = turns; counts = counts }
+abbrev by_turns : ℕ → List Turn → List Count → Wear
+by_turns part turns counts = record { part = part; turns = turns; counts = counts }
 
 -- how it is run
 
-abbrev pub filledIn : List ℕ → List Count → List ℕ
-filledIn counters [] = counters
-filledIn counters (c ∷ cs) = filledIn (set counters c.row c.count) cs
+abbrev pub filled_in : List ℕ → List Count → List ℕ
+filled_in counters [] = counters
+filled_in counters (c ∷ cs) = filled_in (set counters c.row c.count) cs
 
-abbrev pub countersOf : ℕ → List Count → List ℕ
-countersOf part counts = filledIn (replicate (rowCount (figureOf part)) 0) counts
+abbrev pub counters_of : ℕ → List Count → List ℕ
+counters_of part counts = filled_in (replicate (row_count (figure_of part)) 0) counts
 
-abbrev withKept : State → ℕ → State
-withKept s kept =
+abbrev with_kept : State → ℕ → State
+with_kept s kept =
     record {
       part = s.part;
       kept = kept;
@@ -67,25 +67,25 @@ withKept s kept =
       stage = s.stage;
     }
 
-abbrev withState : Chip → State → Chip
-withState c s = record { state = s; array = c.array; serial = c.serial }
+abbrev with_state : Chip → State → Chip
+with_state c s = record { state = s; array = c.array; serial = c.serial }
 
 abbrev turned : Worn → Turn → Worn
 turned w (plainly events) = record { chip = run w.chip events; counters = w.counters }
-turned w (counting events) = countRun w events
-turned w (keeping kept) = record { chip = withState w.chip (withKept w.chip.state kept); counters = w.counters }
-turned w (lending counts) = record { chip = w.chip; counters = countersOf w.chip.state.part counts }
+turned w (counting events) = count_run w events
+turned w (keeping kept) = record { chip = with_state w.chip (with_kept w.chip.state kept); counters = w.counters }
+turned w (lending counts) = record { chip = w.chip; counters = counters_of w.chip.state.part counts }
 
 -- whether no counted event is refused
-abbrev allTaken : Worn → List ℕ → Bool
-allTaken w [] = true
-allTaken w (code ∷ codes) =
+abbrev all_taken : Worn → List ℕ → Bool
+all_taken w [] = true
+all_taken w (code ∷ codes) =
     let c = w.chip in
-    eqb (counted c.serial c.array w.counters c.state code).refusal 0 && allTaken (countOne w code) codes
+    eqb (counted c.serial c.array w.counters c.state code).refusal 0 && all_taken (count_one w code) codes
 
 abbrev taken : Worn → Turn → Bool
 taken w (plainly events) = true
-taken w (counting events) = allTaken w events
+taken w (counting events) = all_taken w events
 taken w (keeping kept) = true
 taken w (lending counts) = true
 
@@ -93,10 +93,10 @@ abbrev ends : List ℕ → Worn → List Turn → Bool
 ends counters w [] = same w.counters counters
 ends counters w (t ∷ ts) = taken w t && ends counters (turned w t) ts
 
-abbrev pub allCounted : List Wear → Bool
-allCounted [] = true
-allCounted (e ∷ es) =
-    ends (countersOf e.part e.counts) (unworn e.part (poweredUp e.part 0 (blank e.part) ownSerial)) e.turns && allCounted es
+abbrev pub all_counted : List Wear → Bool
+all_counted [] = true
+all_counted (e ∷ es) =
+    ends (counters_of e.part e.counts) (unworn e.part (powered_up e.part 0 (blank e.part) own_serial)) e.turns && all_counted es
 
 -- what is sent
 
@@ -109,15 +109,15 @@ shown at = begins (0x03 ∷ 0x00 ∷ at ∷ [])
 
 -- a select in mode 3, SCK high at its start and at its end: the bytes, and one that is read
 abbrev high : List ℕ → List ℕ
-high bytes = 3 ∷ 0 ∷ 2 ∷ clockAll bytes ++ clocks 7 0 ++ (4 ∷ 3 ∷ 1 ∷ [])
+high bytes = 3 ∷ 0 ∷ 2 ∷ clock_all bytes ++ clocks 7 0 ++ (4 ∷ 3 ∷ 1 ∷ [])
 
 -- a byte that is stored at an address below 100h, with the latch set before, in a select that is left open
 abbrev stored : ℕ → List ℕ
 stored at = wren ++ begins (0x02 ∷ 0x00 ∷ at ∷ 0x11 ∷ [])
 
 -- "a READ or FSTRD byte whose first bit was driven"
-unfoldable pub ofReading : List Wear
-ofReading =
+unfoldable pub of_reading : List Wear
+of_reading =
     -- one byte in mode 0: the fall after its last bit's rise drives the first bit of the next, 0004h, in row 1
     wears 3 (transfer (0x03 ∷ 0x00 ∷ 0x03 ∷ 0 ∷ [])) (once 0 ∷ once 1 ∷ [])
     -- in mode 3 that fall does not come
@@ -151,8 +151,8 @@ ofReading =
     ∷ []
 
 -- "or a stored byte"
-unfoldable pub ofWriting : List Wear
-ofWriting =
+unfoldable pub of_writing : List Wear
+of_writing =
     -- five bytes from 0000h on; one at 0003h: a WRITE begins no further byte
     wears 3 (wren ++ transfer (0x02 ∷ 0x00 ∷ 0x00 ∷ 0x11 ∷ 0x22 ∷ 0x33 ∷ 0x44 ∷ 0x55 ∷ [])) (once 0 ∷ once 1 ∷ [])
     ∷ wears 3 (stored 0x03 ++ (1 ∷ [])) (once 0 ∷ [])
@@ -164,33 +164,33 @@ ofWriting =
     -- a WRITE and a READ of one row
     ∷ wears 3 (stored 0x02 ++ (1 ∷ []) ++ transfer (0x03 ∷ 0x00 ∷ 0x03 ∷ [])) (of 0 2 ∷ [])
     -- a byte held back between two that are stored in its row is not the "previous such byte": 0000h, 0001h held back, 0002h
-    ∷ byTurns 3 (counting (stored 0x00) ∷ keeping 0x0C ∷ counting (clocked 0x22) ∷ keeping 0 ∷ counting (clocked 0x33) ∷ []) (once 0 ∷ [])
+    ∷ by_turns 3 (counting (stored 0x00) ∷ keeping 0x0C ∷ counting (clocked 0x22) ∷ keeping 0 ∷ counting (clocked 0x33) ∷ []) (once 0 ∷ [])
     -- nor is it where it begins a row: 0003h, 0004h held back, 0005h
-    ∷ byTurns 3 (counting (stored 0x03) ∷ keeping 0x0C ∷ counting (clocked 0x22) ∷ keeping 0 ∷ counting (clocked 0x33) ∷ []) (once 0 ∷ once 1 ∷ [])
+    ∷ by_turns 3 (counting (stored 0x03) ∷ keeping 0x0C ∷ counting (clocked 0x22) ∷ keeping 0 ∷ counting (clocked 0x33) ∷ []) (once 0 ∷ once 1 ∷ [])
     ∷ []
 
 -- "plain events on these parts keep that row too"
-unfoldable pub ofPlain : List Wear
-ofPlain =
+unfoldable pub of_plain : List Wear
+of_plain =
     -- READ 0000h up to its first bit by plain events; then eight clocks begin 0001h, in the same row
-    byTurns 3 (plainly (shown 0x00) ∷ counting (clocked 0) ∷ []) none
+    by_turns 3 (plainly (shown 0x00) ∷ counting (clocked 0) ∷ []) none
     -- 0003h, and then 0004h
-    ∷ byTurns 3 (plainly (shown 0x03) ∷ counting (clocked 0) ∷ []) (once 1 ∷ [])
+    ∷ by_turns 3 (plainly (shown 0x03) ∷ counting (clocked 0) ∷ []) (once 1 ∷ [])
     -- the fall that drives the first bit is counted, and nothing before it; and the other way round
-    ∷ byTurns 3 (plainly (asked 0x01) ∷ counting (2 ∷ []) ∷ []) (once 0 ∷ [])
-    ∷ byTurns 3 (counting (asked 0x01) ∷ plainly (2 ∷ []) ∷ counting (1 ∷ []) ∷ []) none
+    ∷ by_turns 3 (plainly (asked 0x01) ∷ counting (2 ∷ []) ∷ []) (once 0 ∷ [])
+    ∷ by_turns 3 (counting (asked 0x01) ∷ plainly (2 ∷ []) ∷ counting (1 ∷ []) ∷ []) none
     -- 0002h stored by plain events, then 0003h and 0004h
-    ∷ byTurns 3 (plainly (stored 0x02) ∷ counting (clocked 0x22 ++ clocked 0x33) ∷ []) (once 1 ∷ [])
+    ∷ by_turns 3 (plainly (stored 0x02) ∷ counting (clocked 0x22 ++ clocked 0x33) ∷ []) (once 1 ∷ [])
     ∷ []
 
 -- "A full counter stays full.": of 32 bits there is no larger number than this
 abbrev full : ℕ
 full = 4294967295
 
-unfoldable pub ofFull : List Wear
-ofFull =
-    byTurns 3 (lending (of 0 4294967294 ∷ []) ∷ counting (shown 0x00) ∷ []) (of 0 full ∷ [])
-    ∷ byTurns 3 (lending (of 0 full ∷ []) ∷ counting (transfer (0x03 ∷ 0x00 ∷ 0x03 ∷ 0 ∷ [])) ∷ []) (of 0 full ∷ once 1 ∷ [])
+unfoldable pub of_full : List Wear
+of_full =
+    by_turns 3 (lending (of 0 4294967294 ∷ []) ∷ counting (shown 0x00) ∷ []) (of 0 full ∷ [])
+    ∷ by_turns 3 (lending (of 0 full ∷ []) ∷ counting (transfer (0x03 ∷ 0x00 ∷ 0x03 ∷ 0 ∷ [])) ∷ []) (of 0 full ∷ once 1 ∷ [])
     -- its byte is the "previous" one all the same
-    ∷ byTurns 3 (lending (of 0 full ∷ []) ∷ counting (shown 0x00) ∷ lending none ∷ counting (clocked 0) ∷ []) none
+    ∷ by_turns 3 (lending (of 0 full ∷ []) ∷ counting (shown 0x00) ∷ lending none ∷ counting (clocked 0) ∷ []) none
     ∷ []

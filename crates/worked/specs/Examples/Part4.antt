@@ -9,11 +9,11 @@ use Rattle.stages.specs.declared.stage.Stage.{Stage}
 use Rattle.stages.specs.declared.stage.Stage.TheVariants.{ArrayOut, IdentOut, Over, Asleep}
 use Rattle.select.specs.declared.notes.Note.{Note}
 use Rattle.select.specs.declared.notes.Note.TheVariants.{Latch, Stored, HeldBack, KeptSet, KeptHeldBack, PowerLost}
-use Rattle.pins.specs.Edges.{withSck, withSi, withHold, withStage}
-use Rattle.pins.specs.Levels.{atRest}
+use Rattle.pins.specs.Edges.{with_sck, with_si, with_hold, with_stage}
+use Rattle.pins.specs.Levels.{at_rest}
 use Rattle.pins.specs.declared.hold.Hold.TheVariants.{LowCsLow, LowCsHigh}
 use Rattle.pins.specs.declared.state.State.{State}
-use Rattle.chip.specs.Examples.Run.{Example, accepts, writes, idle, wpLow, begins, transfer, clocks, wren}
+use Rattle.chip.specs.Examples.Run.{Example, accepts, writes, idle, wp_low, begins, transfer, clocks, wren}
 use Rattle.worked.specs.Examples.Rules.{refuses, drives, two, status, low, rdsr, rolls}
 
 -- "Manufacturer ID" and "Product ID", as 004's table of device bytes prints them
@@ -21,12 +21,12 @@ abbrev ident : List ℕ
 ident = 0x7F ∷ 0x7F ∷ 0x7F ∷ 0x7F ∷ 0x7F ∷ 0x7F ∷ 0xC2 ∷ 0x21 ∷ 0x00 ∷ []
 
 -- RDID up to the last of its 72 bits, but for that bit's clock
-abbrev seventyOne : List ℕ
-seventyOne = begins (0x9F ∷ 0 ∷ 0 ∷ 0 ∷ 0 ∷ 0 ∷ 0 ∷ 0 ∷ 0 ∷ []) ++ clocks 7 0
+abbrev seventy_one : List ℕ
+seventy_one = begins (0x9F ∷ 0 ∷ 0 ∷ 0 ∷ 0 ∷ 0 ∷ 0 ∷ 0 ∷ 0 ∷ []) ++ clocks 7 0
 
 -- an open select with SI low
 abbrev opened : Stage → State
-opened stage = withStage (atRest 4 0 true) false stage
+opened stage = with_stage (at_rest 4 0 true) false stage
 
 -- 0B 00 00 00 00 after a WRITE of 54
 abbrev eleven : ℕ → List ℕ → ℕ → List ℕ → Example
@@ -38,12 +38,12 @@ eleven part write at shown =
     (idle part 0 false false)
 
 -- "ten op-codes": those that the other parts lack
-unfoldable pub ofFast : List Example
-ofFast =
+unfoldable pub of_fast : List Example
+of_fast =
     -- "RDID 9Fh shows the device bytes that 004 prints, then releases SO": at the fall after the last bit's rise, and for good
-    drives 0 (accepts 4 0 (seventyOne ++ 3 ∷ []) [] ident (withSck (opened (IdentOut Down 0 8)) true))
-    ∷ accepts 4 0 (seventyOne ++ 3 ∷ 2 ∷ []) [] ident (opened (Over Quiet))
-    ∷ accepts 4 0 (seventyOne ++ clocks 2 0 ++ 1 ∷ []) [] ident (idle 4 0 false false)
+    drives 0 (accepts 4 0 (seventy_one ++ 3 ∷ []) [] ident (with_sck (opened (IdentOut Down 0 8)) true))
+    ∷ accepts 4 0 (seventy_one ++ 3 ∷ 2 ∷ []) [] ident (opened (Over Quiet))
+    ∷ accepts 4 0 (seventy_one ++ clocks 2 0 ++ 1 ∷ []) [] ident (idle 4 0 false false)
     -- "FSTRD 0Bh takes a dummy byte after the address", of any bits; "two-byte address with the upper two bits ignored"; it rolls
     -- from 3FFFh to 0000h, as READ does
     ∷ rolls 4 (0x02 ∷ 0xFF ∷ 0xFF ∷ []) (0x0B ∷ 0x7F ∷ 0xFF ∷ 0xA5 ∷ []) 0x3FFF
@@ -66,8 +66,8 @@ abbrev moved : List ℕ → Note → State → Example
 moved select note after = writes 4 0x80 (wren ++ select) (Latch true ∷ note ∷ Latch false ∷ []) after
 
 -- "The status layout and the protected ranges are 004's. /W guards the status byte only, with WPEN set"
-unfoldable pub ofGuarded : List Example
-ofGuarded =
+unfoldable pub of_guarded : List Example
+of_guarded =
     two 4 0x04 (0x02 ∷ 0x2F ∷ 0xFF ∷ []) (Stored 0x2FFF 0x11) (HeldBack 0x3000 Block)
     ∷ two 4 0x08 (0x02 ∷ 0x1F ∷ 0xFF ∷ []) (Stored 0x1FFF 0x11) (HeldBack 0x2000 Block)
     ∷ two 4 0x0C (0x02 ∷ 0x3F ∷ 0xFF ∷ []) (HeldBack 0x3FFF Block) (HeldBack 0x0000 Block)
@@ -75,29 +75,29 @@ ofGuarded =
     ∷ low (status 4 0 0xFE (KeptSet 0x8C) 0x8C)
     ∷ low (status 4 0x80 0x0C (KeptHeldBack Protect) 0x80)
     -- "its level at the fall of /S counts for the whole select": low from the fall on, or before the data
-    ∷ moved (0 ∷ 8 ∷ clocked 0x01 ++ clocked 0x0C ++ 1 ∷ []) (KeptSet 0x0C) (wpLow (idle 4 0x0C false false))
-    ∷ moved (begins (0x01 ∷ []) ++ 8 ∷ clocked 0x0C ++ 1 ∷ []) (KeptSet 0x0C) (wpLow (idle 4 0x0C false false))
+    ∷ moved (0 ∷ 8 ∷ clocked 0x01 ++ clocked 0x0C ++ 1 ∷ []) (KeptSet 0x0C) (wp_low (idle 4 0x0C false false))
+    ∷ moved (begins (0x01 ∷ []) ++ 8 ∷ clocked 0x0C ++ 1 ∷ []) (KeptSet 0x0C) (wp_low (idle 4 0x0C false false))
     ∷ moved (8 ∷ 0 ∷ 9 ∷ clocked 0x01 ++ clocked 0x0C ++ 1 ∷ []) (KeptHeldBack Protect) (idle 4 0x80 false false)
     -- of that select: the next has its own; and a fall in hold is none
     ∷ moved (8 ∷ transfer [] ++ 9 ∷ transfer (0x01 ∷ 0x0C ∷ [])) (KeptSet 0x0C) (idle 4 0x0C false false)
-    ∷ moved (begins (0x01 ∷ []) ++ 6 ∷ 8 ∷ 1 ∷ 0 ∷ 7 ∷ clocked 0x0C ++ 1 ∷ []) (KeptSet 0x0C) (wpLow (idle 4 0x0C false false))
+    ∷ moved (begins (0x01 ∷ []) ++ 6 ∷ 8 ∷ 1 ∷ 0 ∷ 7 ∷ clocked 0x0C ++ 1 ∷ []) (KeptSet 0x0C) (wp_low (idle 4 0x0C false false))
     ∷ []
 
 abbrev sleep : List ℕ
 sleep = transfer (0xB9 ∷ [])
 
 abbrev asleep : State → State
-asleep s = withStage s s.latch Asleep
+asleep s = with_stage s s.latch Asleep
 
 -- kept 04h: some bytes of SO, and awake with no select open
 abbrev wakes : List ℕ → List Note → List ℕ → Example
 wakes events notes shown = accepts 4 0x04 events notes shown (idle 4 0x04 false false)
 
 -- "SLEEP B9h takes effect at the rise of /S; the next fall of /S wakes the chip and the rest of that select is ignored"
-unfoldable pub ofSleep : List Example
-ofSleep =
+unfoldable pub of_sleep : List Example
+of_sleep =
     -- not at the eighth rise; at the rise of /S, whatever clocks came; under eight bits are no op-code
-    writes 4 0 (begins (0xB9 ∷ [])) [] (withSi (opened (Over Sleeps)) true)
+    writes 4 0 (begins (0xB9 ∷ [])) [] (with_si (opened (Over Sleeps)) true)
     ∷ writes 4 0 sleep [] (asleep (idle 4 0 false true))
     ∷ writes 4 0 (transfer (0xB9 ∷ 0x06 ∷ [])) [] (asleep (idle 4 0 false false))
     ∷ writes 4 0 (0 ∷ clocks 7 0xB9 ++ 1 ∷ []) [] (idle 4 0 false false)
@@ -115,9 +115,9 @@ ofSleep =
     ∷ writes 4 0 (sleep ++ 11 ∷ []) [] (asleep (idle 4 0 false true))
     -- edges in hold neither wake nor put to sleep; 6 and 7 hold asleep too
     ∷ wakes (sleep ++ 6 ∷ 0 ∷ 1 ∷ 7 ∷ rdsr ++ rdsr) [] (0x04 ∷ [])
-    ∷ writes 4 0 (begins (0xB9 ∷ []) ++ 6 ∷ 1 ∷ []) [] (withHold (withSi (opened (Over Sleeps)) true) LowCsHigh)
-    ∷ refuses (6 ∷ 7 ∷ []) (writes 4 0 (sleep ++ 3 ∷ 6 ∷ 2 ∷ 6 ∷ 0 ∷ 7 ∷ []) [] (withHold (asleep (idle 4 0 false true)) LowCsLow))
+    ∷ writes 4 0 (begins (0xB9 ∷ []) ++ 6 ∷ 1 ∷ []) [] (with_hold (with_si (opened (Over Sleeps)) true) LowCsHigh)
+    ∷ refuses (6 ∷ 7 ∷ []) (writes 4 0 (sleep ++ 3 ∷ 6 ∷ 2 ∷ 6 ∷ 0 ∷ 7 ∷ []) [] (with_hold (asleep (idle 4 0 false true)) LowCsLow))
     ∷ []
 
 unfoldable pub part4 : List Example
-part4 = ofFast ++ ofGuarded ++ ofSleep
+part4 = of_fast ++ of_guarded ++ of_sleep

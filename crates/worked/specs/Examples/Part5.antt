@@ -8,15 +8,15 @@ use Rattle.stages.specs.declared.stage.Line.TheVariants.{Down}
 use Rattle.stages.specs.declared.stage.Stage.{Stage}
 use Rattle.stages.specs.declared.stage.Stage.TheVariants.{SerialOut, Over}
 use Rattle.select.specs.declared.notes.Note.TheVariants.{Latch, Stored, HeldBack, KeptSet, KeptHeldBack, PowerLost}
-use Rattle.pins.specs.Edges.{withSck, withSi, withStage}
-use Rattle.pins.specs.Levels.{atRest}
+use Rattle.pins.specs.Edges.{with_sck, with_si, with_stage}
+use Rattle.pins.specs.Levels.{at_rest}
 use Rattle.pins.specs.declared.state.State.{State}
-use Rattle.chip.specs.Examples.Run.{Example, accepts, writes, idle, begins, transfer, clocks, wren, ownSerial}
+use Rattle.chip.specs.Examples.Run.{Example, accepts, writes, idle, begins, transfer, clocks, wren, own_serial}
 use Rattle.worked.specs.Examples.Rules.{drives, two, status, low, rdsr, rolls}
 
 -- SNR up to the last of its 64 bits, but for that bit's clock
-abbrev sixtyThree : List ℕ
-sixtyThree = begins (0xC3 ∷ 0 ∷ 0 ∷ 0 ∷ 0 ∷ 0 ∷ 0 ∷ 0 ∷ []) ++ clocks 7 0
+abbrev sixty_three : List ℕ
+sixty_three = begins (0xC3 ∷ 0 ∷ 0 ∷ 0 ∷ 0 ∷ 0 ∷ 0 ∷ 0 ∷ []) ++ clocks 7 0
 
 -- SNR of one byte
 abbrev snr : List ℕ
@@ -24,20 +24,20 @@ snr = transfer (0xC3 ∷ 0 ∷ [])
 
 -- an open select with SI low
 abbrev opened : Stage → State
-opened stage = withStage (atRest 5 0 true) false stage
+opened stage = with_stage (at_rest 5 0 true) false stage
 
 -- kept 04h: C3h, then RDSR
 abbrev unnumbered : ℕ → Example
 unnumbered part = accepts part 0x04 (snr ++ rdsr) [] (0x04 ∷ []) (idle part 0x04 false false)
 
-unfoldable pub ofSerial : List Example
-ofSerial =
+unfoldable pub of_serial : List Example
+of_serial =
     -- "C3h showing a serial number of eight bytes, then releasing SO": each byte once, the first lent one first, bit 7 of it first;
     -- SO is driven from the op-code's last fall on, and released at the fall after the last bit's rise, for good
-    drives 0 (accepts 5 0 (begins (0xC3 ∷ [])) [] [] (withSi (opened (SerialOut Down 7 0)) true))
-    ∷ drives 0 (accepts 5 0 (sixtyThree ++ 3 ∷ []) [] ownSerial (withSck (opened (SerialOut Down 0 7)) true))
-    ∷ accepts 5 0 (sixtyThree ++ 3 ∷ 2 ∷ []) [] ownSerial (opened (Over Quiet))
-    ∷ accepts 5 0 (sixtyThree ++ clocks 2 0 ++ 1 ∷ []) [] ownSerial (idle 5 0 false false)
+    drives 0 (accepts 5 0 (begins (0xC3 ∷ [])) [] [] (with_si (opened (SerialOut Down 7 0)) true))
+    ∷ drives 0 (accepts 5 0 (sixty_three ++ 3 ∷ []) [] own_serial (with_sck (opened (SerialOut Down 0 7)) true))
+    ∷ accepts 5 0 (sixty_three ++ 3 ∷ 2 ∷ []) [] own_serial (opened (Over Quiet))
+    ∷ accepts 5 0 (sixty_three ++ clocks 2 0 ++ 1 ∷ []) [] own_serial (idle 5 0 false false)
     -- each select begins with the first byte; a cut ends the showing
     ∷ accepts 5 0 (snr ++ transfer (0xC3 ∷ 0 ∷ 0 ∷ [])) [] (0x12 ∷ 0x12 ∷ 0x34 ∷ []) (idle 5 0 false false)
     ∷ accepts 5 0 (begins (0xC3 ∷ 0 ∷ []) ++ 10 ∷ 11 ∷ snr) (PowerLost ∷ []) (0x12 ∷ 0x12 ∷ []) (idle 5 0 false false)
@@ -50,8 +50,8 @@ ofSerial =
     ∷ []
 
 -- "This part is part 4 with ..": FSTRD with its dummy byte and the roll, RDID, the protected ranges, /W at the fall of /S, sleep
-unfoldable pub ofLike4 : List Example
-ofLike4 =
+unfoldable pub of_like4 : List Example
+of_like4 =
     rolls 5 (0x02 ∷ 0xFF ∷ 0xFF ∷ []) (0x0B ∷ 0x7F ∷ 0xFF ∷ 0xA5 ∷ []) 0x3FFF
     ∷ accepts 5 0 (transfer (0x9F ∷ 0 ∷ 0 ∷ 0 ∷ 0 ∷ 0 ∷ 0 ∷ 0 ∷ 0 ∷ 0 ∷ [])) []
     (0x7F ∷ 0x7F ∷ 0x7F ∷ 0x7F ∷ 0x7F ∷ 0x7F ∷ 0xC2 ∷ 0x21 ∷ 0x00 ∷ []) (idle 5 0 false false)
@@ -65,4 +65,4 @@ ofLike4 =
     ∷ []
 
 unfoldable pub part5 : List Example
-part5 = ofSerial ++ ofLike4
+part5 = of_serial ++ of_like4

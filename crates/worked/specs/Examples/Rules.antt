@@ -10,11 +10,11 @@ use Rattle.stages.specs.declared.stage.Stage.TheVariants.{Ready, StatusOut, Over
 use Rattle.stages.specs.declared.stage.What.TheVariants.{Status}
 use Rattle.select.specs.declared.notes.Note.{Note}
 use Rattle.select.specs.declared.notes.Note.TheVariants.{Latch, Stored, HeldBack, KeptSet, KeptHeldBack, PowerLost}
-use Rattle.pins.specs.Edges.{withSck, withSi, withHold, withStage}
-use Rattle.pins.specs.Levels.{atRest}
+use Rattle.pins.specs.Edges.{with_sck, with_si, with_hold, with_stage}
+use Rattle.pins.specs.Levels.{at_rest}
 use Rattle.pins.specs.declared.hold.Hold.TheVariants.{LowCsLow}
 use Rattle.pins.specs.declared.state.State.{State}
-use Rattle.chip.specs.Examples.Run.{Example, accepts, writes, idle, wpLow, begins, transfer, clocks, wren}
+use Rattle.chip.specs.Examples.Run.{Example, accepts, writes, idle, wp_low, begins, transfer, clocks, wren}
 
 -- some event is refused, or SO is driven at the end
 abbrev pub refuses : List ℕ → Example → Example
@@ -41,35 +41,35 @@ status part kept byte note after =
 -- the same with /WP low from the start
 abbrev pub low : Example → Example
 low e =
-    record { part = e.part; kept = e.kept; events = 8 ∷ e.events; refusals = e.refusals; notes = e.notes; shown = e.shown; so = e.so; state = wpLow e.state }
+    record { part = e.part; kept = e.kept; events = 8 ∷ e.events; refusals = e.refusals; notes = e.notes; shown = e.shown; so = e.so; state = wp_low e.state }
 
 -- RDSR of one byte
 abbrev pub rdsr : List ℕ
 rdsr = transfer (0x05 ∷ 0x00 ∷ [])
 
 -- "Setting a pin to the level it has is accepted and has no effect." The power; "the off state".
-unfoldable pub ofLines : List Example
-ofLines =
+unfoldable pub of_lines : List Example
+of_lines =
     -- /CS low, SCK high and SCK low a second time, inside WREN
     writes 1 0 (0 ∷ 4 ∷ 3 ∷ 3 ∷ 2 ∷ 2 ∷ 0 ∷ clocks 7 0x0C ++ 1 ∷ 1 ∷ []) (Latch true ∷ []) (idle 1 0 true false)
     -- event 11 with power on, inside WREN
     ∷ writes 1 0 (0 ∷ clocks 4 0x06 ++ 11 ∷ clocks 4 0x60 ++ 1 ∷ []) (Latch true ∷ []) (idle 1 0 true false)
     -- the levels don't move while power is off, and nothing is refused but 5
-    ∷ refuses (5 ∷ []) (writes 1 0 (10 ∷ 8 ∷ 0 ∷ 5 ∷ 3 ∷ 6 ∷ 7 ∷ 12 ∷ 10 ∷ []) (PowerLost ∷ []) (atRest 1 0 false))
-    ∷ writes 1 0 (10 ∷ 8 ∷ 0 ∷ 5 ∷ 3 ∷ 11 ∷ []) (PowerLost ∷ []) (atRest 1 0 true)
+    ∷ refuses (5 ∷ []) (writes 1 0 (10 ∷ 8 ∷ 0 ∷ 5 ∷ 3 ∷ 6 ∷ 7 ∷ 12 ∷ 10 ∷ []) (PowerLost ∷ []) (at_rest 1 0 false))
+    ∷ writes 1 0 (10 ∷ 8 ∷ 0 ∷ 5 ∷ 3 ∷ 11 ∷ []) (PowerLost ∷ []) (at_rest 1 0 true)
     -- "all else is as at power-up": a cut puts the lines back, in hold too
-    ∷ writes 1 0 (8 ∷ 5 ∷ 0 ∷ 3 ∷ 10 ∷ 11 ∷ []) (PowerLost ∷ []) (atRest 1 0 true)
-    ∷ writes 1 0 (6 ∷ 0 ∷ 3 ∷ 10 ∷ 11 ∷ []) (PowerLost ∷ []) (atRest 1 0 true)
+    ∷ writes 1 0 (8 ∷ 5 ∷ 0 ∷ 3 ∷ 10 ∷ 11 ∷ []) (PowerLost ∷ []) (at_rest 1 0 true)
+    ∷ writes 1 0 (6 ∷ 0 ∷ 3 ∷ 10 ∷ 11 ∷ []) (PowerLost ∷ []) (at_rest 1 0 true)
     -- a cut with the latch on has one note; a closed WRITE's byte and the kept bits stay
     ∷ writes 3 0
     (wren ++ transfer (0x02 ∷ 0x00 ∷ 0x00 ∷ 0x54 ∷ []) ++ wren ++ transfer (0x01 ∷ 0x84 ∷ []) ++ wren ++ 10 ∷ [])
     (Latch true ∷ Stored 0x000 0x54 ∷ Latch false ∷ Latch true ∷ KeptSet 0x84 ∷ Latch false ∷ Latch true ∷ PowerLost ∷ [])
-    (atRest 3 0x84 false)
+    (at_rest 3 0x84 false)
     -- 13. "Event 10 right after a data byte's eighth rise: that byte is stored."
     ∷ writes 1 0
     (wren ++ begins (0x02 ∷ 0x30 ∷ []) ++ clocks 7 0xA5 ++ 5 ∷ 3 ∷ 10 ∷ [])
     (Latch true ∷ Stored 0x030 0xA5 ∷ PowerLost ∷ [])
-    (atRest 1 0 false)
+    (at_rest 1 0 false)
     -- 5, with power on: "12 or more", no code is cut to a byte
     ∷ refuses (5 ∷ 5 ∷ 5 ∷ []) (writes 1 0 (12 ∷ 13 ∷ 262 ∷ wren) (Latch true ∷ []) (idle 1 0 true false))
     ∷ []
@@ -85,7 +85,7 @@ others part =
 unfoldable pub of_codes : List Example
 of_codes =
     -- WREN at its eighth rise, with SCK still high; under eight clocks nothing
-    writes 1 0 (0 ∷ clocks 7 0x06 ++ 4 ∷ 3 ∷ []) (Latch true ∷ []) (withSck (withStage (atRest 1 0 true) true (Over Quiet)) true)
+    writes 1 0 (0 ∷ clocks 7 0x06 ++ 4 ∷ 3 ∷ []) (Latch true ∷ []) (with_sck (with_stage (at_rest 1 0 true) true (Over Quiet)) true)
     ∷ writes 1 0 (0 ∷ clocks 7 0x06 ++ 1 ∷ []) [] (idle 1 0 false true)
     -- "Each gives the latch note, changed or not."
     ∷ writes 1 0 (transfer (0x04 ∷ []) ++ wren ++ wren ++ transfer (0x04 ∷ [])) (Latch false ∷ Latch true ∷ Latch true ∷ Latch false ∷ []) (idle 1 0 false false)
@@ -113,7 +113,7 @@ of_codes =
 
 -- part 3 in an open select, with kept 80h
 abbrev shows : Stage → State
-shows stage = withStage (atRest 3 0x80 true) false stage
+shows stage = with_stage (at_rest 3 0x80 true) false stage
 
 -- RDSR up to the rise of its eighth bit
 abbrev eighth : List ℕ
@@ -129,25 +129,25 @@ rolls part write read last =
     (idle part 0 false false)
 
 -- "Output moves on a seen fall of SCK once the header is whole"
-unfoldable pub ofOutput : List Example
-ofOutput =
+unfoldable pub of_output : List Example
+of_output =
     -- every status bit, on and off, with the latch and without
     accepts 3 0x80 (rdsr ++ wren ++ rdsr) (Latch true ∷ []) (0x80 ∷ 0x82 ∷ []) (idle 3 0x80 true false)
     ∷ accepts 3 0x8C (rdsr ++ wren ++ rdsr) (Latch true ∷ []) (0x8C ∷ 0x8E ∷ []) (idle 3 0x8C true false)
     ∷ accepts 1 0x04 (rdsr ++ wren ++ rdsr) (Latch true ∷ []) (0x04 ∷ 0x06 ∷ []) (idle 1 0x04 true false)
     ∷ accepts 2 0x08 (rdsr ++ wren ++ rdsr) (Latch true ∷ []) (0x08 ∷ 0x0A ∷ []) (idle 2 0x08 true false)
     -- the header's last rise shows nothing yet, its fall shows bit 7
-    ∷ accepts 3 0x80 (0 ∷ clocks 7 0x05 ++ 5 ∷ 3 ∷ []) [] [] (withSck (withSi (shows (Ready Status 0)) true) true)
-    ∷ drives 1 (accepts 3 0x80 (begins (0x05 ∷ [])) [] [] (withSi (shows (StatusOut Up 7)) true))
+    ∷ accepts 3 0x80 (0 ∷ clocks 7 0x05 ++ 5 ∷ 3 ∷ []) [] [] (with_sck (with_si (shows (Ready Status 0)) true) true)
+    ∷ drives 1 (accepts 3 0x80 (begins (0x05 ∷ [])) [] [] (with_si (shows (StatusOut Up 7)) true))
     -- an event without effect leaves SO as it is
-    ∷ drives 1 (accepts 3 0x80 (begins (0x05 ∷ []) ++ 2 ∷ 11 ∷ 8 ∷ 9 ∷ []) [] [] (withSi (shows (StatusOut Up 7)) true))
+    ∷ drives 1 (accepts 3 0x80 (begins (0x05 ∷ []) ++ 2 ∷ 11 ∷ 8 ∷ 9 ∷ []) [] [] (with_si (shows (StatusOut Up 7)) true))
     -- "RDSR shows the status byte once; the fall after its eighth bit's rise releases SO": not that rise
-    ∷ drives 0 (accepts 3 0x80 eighth [] (0x80 ∷ []) (withSck (shows (StatusOut Down 0)) true))
+    ∷ drives 0 (accepts 3 0x80 eighth [] (0x80 ∷ []) (with_sck (shows (StatusOut Down 0)) true))
     ∷ accepts 3 0x80 (eighth ++ 2 ∷ []) [] (0x80 ∷ []) (shows (Over Quiet))
     ∷ accepts 1 0x0C (transfer (0x05 ∷ 0x00 ∷ 0x00 ∷ [])) [] (0x0C ∷ []) (idle 1 0x0C false false)
     -- a refusal reads released, and the next answer has the level again
-    ∷ refuses (6 ∷ []) (accepts 3 0x80 (eighth ++ 6 ∷ []) [] (0x80 ∷ []) (withSck (shows (StatusOut Down 0)) true))
-    ∷ drives 0 (refuses (6 ∷ []) (accepts 3 0x80 (eighth ++ 6 ∷ 3 ∷ []) [] (0x80 ∷ []) (withSck (shows (StatusOut Down 0)) true)))
+    ∷ refuses (6 ∷ []) (accepts 3 0x80 (eighth ++ 6 ∷ []) [] (0x80 ∷ []) (with_sck (shows (StatusOut Down 0)) true))
+    ∷ drives 0 (refuses (6 ∷ []) (accepts 3 0x80 (eighth ++ 6 ∷ 3 ∷ []) [] (0x80 ∷ []) (with_sck (shows (StatusOut Down 0)) true)))
     -- "modes 0 and 3": SCK high at the fall of /CS, and its first fall comes before any bit
     ∷ accepts 1 0x0C (3 ∷ 0 ∷ 2 ∷ clocked 0x05 ++ clocked 0x00 ++ 1 ∷ []) [] (0x0C ∷ []) (idle 1 0x0C false false)
     -- "then the next address, rolling from the last to 0", on each size; bit 3 of READ is A8, and 03h reads the lower half
@@ -162,8 +162,8 @@ ofOutput =
     ∷ []
 
 -- WRITE, WRSR and the close
-unfoldable pub ofWriting : List Example
-ofWriting =
+unfoldable pub of_writing : List Example
+of_writing =
     -- no data byte: the op-code alone, the address alone, on both widths of the address
     writes 1 0 (wren ++ transfer (0x02 ∷ []) ++ transfer (0x02 ∷ 0x00 ∷ [])) (Latch true ∷ []) (idle 1 0 true false)
     ∷ writes 3 0 (wren ++ transfer (0x02 ∷ 0x00 ∷ []) ++ transfer (0x02 ∷ 0x00 ∷ 0x00 ∷ [])) (Latch true ∷ []) (idle 3 0 true false)
@@ -193,8 +193,8 @@ ofWriting =
     ∷ []
 
 -- "Who may write"
-unfoldable pub ofGuards : List Example
-ofGuards =
+unfoldable pub of_guards : List Example
+of_guards =
     -- "01 the upper quarter, 10 the upper half, 11 all", on each part at the last free and the first guarded address
     two 1 0x08 (0x02 ∷ 0xFF ∷ []) (Stored 0x0FF 0x11) (HeldBack 0x100 Block)
     ∷ two 1 0x0C (0x0A ∷ 0xFF ∷ []) (HeldBack 0x1FF Block) (HeldBack 0x000 Block)
@@ -226,11 +226,11 @@ ofGuards =
     ∷ writes 1 0
     (wren ++ begins (0x02 ∷ 0x00 ∷ []) ++ clocks 1 0x54 ++ 8 ∷ clocks 7 0xA8 ++ 1 ∷ [])
     (Latch true ∷ Stored 0x000 0x54 ∷ Latch false ∷ [])
-    (wpLow (idle 1 0 false false))
+    (wp_low (idle 1 0 false false))
     ∷ writes 1 0
     (wren ++ begins (0x02 ∷ 0x00 ∷ []) ++ clocks 7 0x54 ++ 8 ∷ 4 ∷ 3 ∷ 2 ∷ 1 ∷ [])
     (Latch true ∷ Stored 0x000 0x54 ∷ Latch false ∷ [])
-    (wpLow (idle 1 0 false false))
+    (wp_low (idle 1 0 false false))
     ∷ writes 1 0
     (wren ++ begins (0x02 ∷ 0x00 ∷ []) ++ 8 ∷ clocks 1 0x54 ++ 9 ∷ clocks 7 0xA8 ++ 1 ∷ [])
     (Latch true ∷ HeldBack 0x000 Protect ∷ Latch false ∷ [])
@@ -243,12 +243,12 @@ ofGuards =
     ∷ writes 1 0
     (wren ++ begins (0x02 ∷ 0x00 ∷ []) ++ 8 ∷ 4 ∷ 9 ∷ 3 ∷ 8 ∷ 2 ∷ clocks 7 0xA8 ++ 1 ∷ [])
     (Latch true ∷ Stored 0x000 0x54 ∷ Latch false ∷ [])
-    (wpLow (idle 1 0 false false))
+    (wp_low (idle 1 0 false false))
     -- the next byte of the same transfer reads its own level
     ∷ writes 1 0
     (wren ++ begins (0x02 ∷ 0x00 ∷ []) ++ clocks 1 0x11 ++ 8 ∷ clocks 7 0x22 ++ clocked 0x22 ++ 1 ∷ [])
     (Latch true ∷ Stored 0x000 0x11 ∷ HeldBack 0x001 Protect ∷ Latch false ∷ [])
-    (wpLow (idle 1 0 false false))
+    (wp_low (idle 1 0 false false))
     ∷ writes 1 0
     (wren ++ begins (0x02 ∷ 0x00 ∷ []) ++ 8 ∷ clocks 1 0x11 ++ 9 ∷ clocks 7 0x22 ++ clocked 0x22 ++ 1 ∷ [])
     (Latch true ∷ HeldBack 0x000 Protect ∷ Stored 0x001 0x22 ∷ Latch false ∷ [])
@@ -257,7 +257,7 @@ ofGuards =
     ∷ writes 1 0
     (wren ++ begins (0x01 ∷ []) ++ clocks 1 0x0C ++ 8 ∷ clocks 7 0x18 ++ 1 ∷ [])
     (Latch true ∷ KeptSet 0x0C ∷ Latch false ∷ [])
-    (wpLow (idle 1 0x0C false false))
+    (wp_low (idle 1 0x0C false false))
     ∷ writes 1 0
     (wren ++ begins (0x01 ∷ []) ++ 8 ∷ clocks 1 0x0C ++ 9 ∷ clocks 7 0x18 ++ 1 ∷ [])
     (Latch true ∷ KeptHeldBack Protect ∷ Latch false ∷ [])
@@ -265,7 +265,7 @@ ofGuards =
     ∷ writes 3 0x80
     (wren ++ begins (0x01 ∷ []) ++ clocks 1 0x0C ++ 8 ∷ clocks 7 0x18 ++ 1 ∷ [])
     (Latch true ∷ KeptSet 0x0C ∷ Latch false ∷ [])
-    (wpLow (idle 3 0x0C false false))
+    (wp_low (idle 3 0x0C false false))
     ∷ writes 3 0x80
     (wren ++ begins (0x01 ∷ []) ++ 8 ∷ clocks 1 0x0C ++ 9 ∷ clocks 7 0x18 ++ 1 ∷ [])
     (Latch true ∷ KeptHeldBack Protect ∷ Latch false ∷ [])
@@ -279,7 +279,7 @@ ofGuards =
     ∷ writes 1 0
     (wren ++ begins (0x02 ∷ 0x00 ∷ []) ++ clocks 1 0x54 ++ 6 ∷ 8 ∷ 7 ∷ clocks 7 0xA8 ++ 1 ∷ [])
     (Latch true ∷ Stored 0x000 0x54 ∷ Latch false ∷ [])
-    (wpLow (idle 1 0 false false))
+    (wp_low (idle 1 0 false false))
     ∷ writes 1 0
     (wren ++ begins (0x02 ∷ 0x00 ∷ []) ++ 6 ∷ 8 ∷ 3 ∷ 2 ∷ 9 ∷ 7 ∷ clocked 0x54 ++ 1 ∷ [])
     (Latch true ∷ Stored 0x000 0x54 ∷ Latch false ∷ [])
@@ -288,12 +288,12 @@ ofGuards =
     ∷ writes 1 0
     (wren ++ begins (0x02 ∷ 0x00 ∷ []) ++ 6 ∷ 8 ∷ 7 ∷ clocked 0x54 ++ 1 ∷ [])
     (Latch true ∷ HeldBack 0x000 Protect ∷ Latch false ∷ [])
-    (wpLow (idle 1 0 false false))
+    (wp_low (idle 1 0 false false))
     ∷ []
 
 -- "Hold"
-unfoldable pub ofHold : List Example
-ofHold =
+unfoldable pub of_hold : List Example
+of_hold =
     -- moves of SCK are not seen: a bit in hold is none; SI is followed, and the last bit is taken as it then stands
     writes 1 0
     (wren ++ begins (0x02 ∷ 0x00 ∷ []) ++ clocks 4 0x54 ++ 6 ∷ 5 ∷ 3 ∷ 2 ∷ 7 ∷ clocks 4 0x40 ++ 1 ∷ [])
@@ -301,11 +301,11 @@ ofHold =
     (idle 1 0 false false)
     ∷ writes 1 0 (0 ∷ clocks 7 0x06 ++ 6 ∷ 4 ∷ 7 ∷ 3 ∷ 2 ∷ 1 ∷ []) (Latch true ∷ []) (idle 1 0 true false)
     -- moves of /CS are not seen: none opens a select, none closes one
-    ∷ writes 1 0 (6 ∷ 0 ∷ 1 ∷ 7 ∷ []) [] (atRest 1 0 true)
+    ∷ writes 1 0 (6 ∷ 0 ∷ 1 ∷ 7 ∷ []) [] (at_rest 1 0 true)
     ∷ writes 1 0 (0 ∷ clocks 7 0x06 ++ 6 ∷ 1 ∷ 0 ∷ 7 ∷ 4 ∷ 3 ∷ 2 ∷ 1 ∷ []) (Latch true ∷ []) (idle 1 0 true false)
     -- "SO is released. When /HOLD rises, SO shows again what it showed before."
-    ∷ accepts 3 0x80 (begins (0x05 ∷ []) ++ 6 ∷ 3 ∷ 2 ∷ []) [] [] (withHold (withSi (shows (StatusOut Up 7)) true) LowCsLow)
-    ∷ drives 1 (accepts 3 0x80 (begins (0x05 ∷ []) ++ 6 ∷ 3 ∷ 2 ∷ 7 ∷ []) [] [] (withSi (shows (StatusOut Up 7)) true))
+    ∷ accepts 3 0x80 (begins (0x05 ∷ []) ++ 6 ∷ 3 ∷ 2 ∷ []) [] [] (with_hold (with_si (shows (StatusOut Up 7)) true) LowCsLow)
+    ∷ drives 1 (accepts 3 0x80 (begins (0x05 ∷ []) ++ 6 ∷ 3 ∷ 2 ∷ 7 ∷ []) [] [] (with_si (shows (StatusOut Up 7)) true))
     -- 14. "READ held after four data clocks, three pulses of SCK, released: the byte is whole."
     ∷ accepts 1 0
     (wren ++ transfer (0x02 ∷ 0x00 ∷ 0x54 ∷ []) ++ begins (0x03 ∷ 0x00 ∷ []) ++ clocks 4 0x00 ++ 6 ∷ 3 ∷ 2 ∷ 3 ∷ 2 ∷ 3 ∷ 2 ∷ 7 ∷ clocks 4 0x00 ++ 1 ∷ [])
@@ -313,15 +313,15 @@ ofHold =
     (0x54 ∷ [])
     (idle 1 0 false false)
     -- 6, with a select or without, and only where /HOLD would move
-    ∷ refuses (6 ∷ []) (writes 1 0 (3 ∷ 6 ∷ []) [] (withSck (atRest 1 0 true) true))
+    ∷ refuses (6 ∷ []) (writes 1 0 (3 ∷ 6 ∷ []) [] (with_sck (at_rest 1 0 true) true))
     ∷ refuses (6 ∷ []) (writes 1 0 (0 ∷ clocks 7 0x06 ++ 4 ∷ 3 ∷ 6 ∷ 2 ∷ 1 ∷ []) (Latch true ∷ []) (idle 1 0 true false))
-    ∷ refuses (6 ∷ []) (writes 1 0 (6 ∷ 3 ∷ 7 ∷ 2 ∷ 7 ∷ []) [] (atRest 1 0 true))
-    ∷ writes 1 0 (3 ∷ 7 ∷ 2 ∷ 6 ∷ 3 ∷ 6 ∷ 2 ∷ 7 ∷ []) [] (atRest 1 0 true)
+    ∷ refuses (6 ∷ []) (writes 1 0 (6 ∷ 3 ∷ 7 ∷ 2 ∷ 7 ∷ []) [] (at_rest 1 0 true))
+    ∷ writes 1 0 (3 ∷ 7 ∷ 2 ∷ 6 ∷ 3 ∷ 6 ∷ 2 ∷ 7 ∷ []) [] (at_rest 1 0 true)
     -- 7, from either level of /CS; /CS may come back; 6 before 7
-    ∷ refuses (7 ∷ []) (writes 1 0 (6 ∷ 0 ∷ 7 ∷ []) [] (withHold (atRest 1 0 true) LowCsLow))
+    ∷ refuses (7 ∷ []) (writes 1 0 (6 ∷ 0 ∷ 7 ∷ []) [] (with_hold (at_rest 1 0 true) LowCsLow))
     ∷ refuses (7 ∷ []) (writes 1 0 (0 ∷ clocks 7 0x06 ++ 6 ∷ 1 ∷ 7 ∷ 0 ∷ 7 ∷ 4 ∷ 3 ∷ 2 ∷ 1 ∷ []) (Latch true ∷ []) (idle 1 0 true false))
-    ∷ refuses (6 ∷ 7 ∷ []) (writes 1 0 (6 ∷ 0 ∷ 3 ∷ 7 ∷ 2 ∷ 7 ∷ 1 ∷ 7 ∷ []) [] (atRest 1 0 true))
+    ∷ refuses (6 ∷ 7 ∷ []) (writes 1 0 (6 ∷ 0 ∷ 3 ∷ 7 ∷ 2 ∷ 7 ∷ 1 ∷ 7 ∷ []) [] (at_rest 1 0 true))
     ∷ []
 
 unfoldable pub rules : List Example
-rules = ofLines ++ of_codes ++ ofOutput ++ ofWriting ++ ofGuards ++ ofHold
+rules = of_lines ++ of_codes ++ of_output ++ of_writing ++ of_guards ++ of_hold

@@ -5,7 +5,7 @@ use mathlib.Core.List.{[]}
 use lib.Seq.{length-take-le}
 use Rattle.parts.specs.FigureLaws.{largest}
 use Rattle.bench.specs.Run.{replayed}
-use Rattle.bench.proofs.Runs.{replayed-led, replayed-not, whole}
+use Rattle.bench.proofs.Runs.{replayed_led, replayed_not, whole}
 use borrow.Author.Rules.{rules}
 use Rattle.bench.proofs.run.run_whole.Statement.{statement}
 use Rattle.bench.proofs.run.run_whole.Tie as tie
@@ -15,7 +15,7 @@ returns-2 c =
     let run = c.before.before.before in
     let size = run.before.before.before.before in
     let head = size.before.before.before.head_of.ensures in
-    whole _ _ _ _ _ _ (replayed-led _ _ _ _ _ _ head size.before.if1.false size.figure-of.ensures run.run.ensures)
+    whole _ _ _ _ _ _ (replayed_led _ _ _ _ _ _ head size.before.if1.false size.figure-of.ensures run.run.ensures)
 
 pub run-whole-spec : {M : Type 1} → statement M
 run-whole-spec =
@@ -24,7 +24,7 @@ run-whole-spec =
     (λ c κs. search rules)
     (λ c κs. search rules)
     (λ c κs. search rules)
-    (λ c. whole (replayed _ _) _ _ [] _ _ (search replayed-not))
+    (λ c. whole (replayed _ _) _ _ [] _ _ (search replayed_not))
     (λ c κs. search rules)
     (λ c. rw c.figure-of.ensures (largest _))
     (λ c. sym (length-take-le _ _ (rw c.before.figure-of.ensures (largest _))))

@@ -1,5 +1,5 @@
 -- By what the item is.
-use Rattle.bench.proofs.Runs.{item-run, item-short}
+use Rattle.bench.proofs.Runs.{item_run, item_short}
 use borrow.Author.Rules.{rules}
 use Rattle.bench.proofs.run.take_item.Statement.{statement}
 use Rattle.bench.proofs.run.take_item.Tie as tie
@@ -12,8 +12,8 @@ take-item-spec =
     (λ c κs. search rules)
     (λ c. search rules)
     (λ c. search rules)
-    (λ c. search item-run)
+    (λ c. search item_run)
     (λ c κs. search rules)
     (λ c. search rules)
     (λ c. search rules)
-    (λ c. search item-short))
+    (λ c. search item_short))

@@ -3,11 +3,11 @@
 use mathlib.Core.Path.{◌≡◌, ◌∙◌}
 use Prim.Native.Nat.{◌-◌}
 use lib.ListN.{length}
-use Rattle.trace.specs.NumberLaws.{less-left}
-use Rattle.turns.specs.Bench.{benchOf, onPage}
+use Rattle.trace.specs.NumberLaws.{less_left}
+use Rattle.turns.specs.Bench.{bench_of, on_page}
 use Rattle.turns.specs.Page.{page_of}
-use Rattle.bench.specs.Run.{ranFrom}
-use Rattle.bench.proofs.Runs.{ran-stays, ran-number, ran-end, ran-refused}
+use Rattle.bench.specs.Run.{ran_from}
+use Rattle.bench.proofs.Runs.{ran_stays, ran_number, ran_end, ran_refused}
 use borrow.Author.Rules.{rules}
 use Rattle.bench.proofs.run.take_items.Statement.{statement}
 use Rattle.bench.proofs.run.take_items.Tie as tie
@@ -15,8 +15,8 @@ use Rattle.bench.proofs.run.take_items.Tie as tie
 abbrev invariant-loop : tie.invariant-loop
 invariant-loop trace at array₀ shown₀ out₀ turn₀ place₀ array shown out turn place =
     (length array ≡ length array₀) × (length out ≡ length out₀)
-    × (onPage (page_of out turn.at) (ranFrom trace place (benchOf turn array shown))
-    ≡ onPage (page_of out₀ turn₀.at) (ranFrom trace at (benchOf turn₀ array₀ shown₀)))
+    × (on_page (page_of out turn.at) (ran_from trace place (bench_of turn array shown))
+    ≡ on_page (page_of out₀ turn₀.at) (ran_from trace at (bench_of turn₀ array₀ shown₀)))
 
 abbrev decreases-loop : tie.decreases-loop
 decreases-loop trace at array₀ shown₀ out₀ turn₀ place₀ array shown out turn place = length trace - place
@@ -28,7 +28,7 @@ loop-again c =
     let read = got.before.before in (
       search rules,
       search rules,
-      ran-number _ _ _ _ _ _ _ read.number_at.ensures _ _ _ _ _ _ got.value.given.1 taken.take-item.ensures
+      ran_number _ _ _ _ _ _ _ read.number_at.ensures _ _ _ _ _ _ got.value.given.1 taken.take-item.ensures
           ∙ read.before.before.before.loop.invariant.2,
     )
 
@@ -42,17 +42,17 @@ take-items-spec =
     (λ c κs. search rules)
     (λ c. search rules)
     (λ c κs. search rules)
-    (λ c. search less-left)
+    (λ c. search less_left)
     loop-again
     (λ c. search rules)
     (λ c. search rules)
     (λ c. search rules)
-    (λ c. search (ran-end, ◌∙◌))
+    (λ c. search (ran_end, ◌∙◌))
     (λ c. search rules)
     (λ c κs. search rules)
     (λ c. search rules)
     (λ c. search rules)
-    (λ c. search (ran-refused, ◌∙◌))
+    (λ c. search (ran_refused, ◌∙◌))
     (λ c. search rules)
     (λ c. search rules)
-    (λ c. search (ran-stays, ◌∙◌)))
+    (λ c. search (ran_stays, ◌∙◌)))

@@ -3,10 +3,10 @@
 use mathlib.Core.Path.{◌≡◌, ◌∙◌}
 use Prim.Native.Nat.{◌-◌}
 use lib.ListN.{length, drop}
-use Rattle.trace.specs.Items.{shortEvents}
-use Rattle.turns.specs.Bench.{afterEvents, benchOf, onPage}
+use Rattle.trace.specs.Items.{short_events}
+use Rattle.turns.specs.Bench.{after_events, bench_of, on_page}
 use Rattle.turns.specs.Page.{page_of}
-use Rattle.turns.specs.EventLaws.{events-on, events-end, events-over}
+use Rattle.turns.specs.EventLaws.{events_on, events_end, events_over}
 use borrow.Author.Rules.{rules}
 use Rattle.bench.proofs.run.take_short.Statement.{statement}
 use Rattle.bench.proofs.run.take_short.Tie as tie
@@ -14,8 +14,8 @@ use Rattle.bench.proofs.run.take_short.Tie as tie
 abbrev invariant-loop : tie.invariant-loop
 invariant-loop array₀ shown₀ out₀ item events turn₀ k₀ array shown out turn k =
     (length array ≡ length array₀) × (length out ≡ length out₀)
-    × (onPage (page_of out turn.at) (afterEvents (benchOf turn array shown) (drop k (shortEvents item)))
-    ≡ onPage (page_of out₀ turn₀.at) (afterEvents (benchOf turn₀ array₀ shown₀) (shortEvents item)))
+    × (on_page (page_of out turn.at) (after_events (bench_of turn array shown) (drop k (short_events item)))
+    ≡ on_page (page_of out₀ turn₀.at) (after_events (bench_of turn₀ array₀ shown₀) (short_events item)))
 
 abbrev decreases-loop : tie.decreases-loop
 decreases-loop array₀ shown₀ out₀ item events turn₀ k₀ array shown out turn k = events - k
@@ -27,7 +27,7 @@ loop-again c =
     let test = on.before.before in (
       search rules,
       search rules,
-      events-on _ _ _ _ _ _ _ _ _ _ _ _ test.before.before.events-of.ensures test.loop-test.true
+      events_on _ _ _ _ _ _ _ _ _ _ _ _ test.before.before.events-of.ensures test.loop-test.true
           taken.before.event-of.ensures on.if1.false taken.take-event.ensures
           ∙ test.before.loop.invariant.2,
     )
@@ -42,7 +42,7 @@ take-short-spec =
     (λ c. search rules)
     (λ c. search rules)
     (λ c. search rules)
-    (λ c. search (events-end, ◌∙◌))
+    (λ c. search (events_end, ◌∙◌))
     (λ c κs. search rules)
     (λ c κs. search rules)
     (λ c. search rules)
@@ -50,4 +50,4 @@ take-short-spec =
     loop-again
     (λ c. search rules)
     (λ c. search rules)
-    (λ c. search (events-over, ◌∙◌)))
+    (λ c. search (events_over, ◌∙◌)))

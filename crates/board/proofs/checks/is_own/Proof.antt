@@ -1,11 +1,11 @@
 -- The two tests, joined.
 use borrow.Author.Rules.{rules}
-use Rattle.board.specs.Checks.{isOwn}
+use Rattle.board.specs.Checks.{is_own}
 use Rattle.board.proofs.checks.is_own.Statement.{statement}
 use Rattle.board.proofs.checks.is_own.Tie as tie
 
 returns : tie.Need-returns
-unfolding isOwn
+unfolding is_own
 returns c = search rules
 
 pub is-own-spec : {M : Type 1} → statement M

@@ -3,8 +3,8 @@ use Prim.Native.Nat.{◌-◌}
 use native.Mathlib.Nat.{lt_of_le_of_lt}
 use native.Mathlib.Omega.{arith}
 use borrow.Author.Rules.{rules}
-use Rattle.board.proofs.Places.{on-board}
-use Rattle.board.specs.EveryLaws.{Going, going-starts, ends-inside, own-inside, going_on, going-ends}
+use Rattle.board.proofs.Places.{on_board}
+use Rattle.board.specs.EveryLaws.{Going, going_starts, ends_inside, own_inside, going_on, going_ends}
 use Rattle.board.proofs.event.move_every.Statement.{statement}
 use Rattle.board.proofs.event.move_every.Tie as tie
 
@@ -18,7 +18,7 @@ decreases-loop array₀ serials code board count after₀ start₀ from₀ i₀ 
 loop-holds : tie.Need-loop-init invariant-loop decreases-loop
 loop-holds c =
     let start = c.before.before in
-    going-starts _ _ _ _ _ (on-board start.args.t1 _ start.well-formed.0.1.1.1.0.1.0.1 start.requires.0) start.requires.1 start.requires.2
+    going_starts _ _ _ _ _ (on_board start.args.t1 _ start.well-formed.0.1.1.1.0.1.0.1 start.requires.0) start.requires.1 start.requires.2
 
 element-copy-out-state : tie.Need-element-copy-out-state invariant-loop decreases-loop
 element-copy-out-state c = omega (arith, c.loop-test.true, c.before.before.before.before.requires.0)
@@ -29,7 +29,7 @@ add-end c =
     record {
       fits =
           lt_of_le_of_lt
-          (ends-inside _ _ _ _ _ _ _ _ _ _ l.loop.invariant _ c.before.before.before.loop-test.true _ c.before.lengths-of.ensures.0)
+          (ends_inside _ _ _ _ _ _ _ _ _ _ l.loop.invariant _ c.before.before.before.loop-test.true _ c.before.lengths-of.ensures.0)
           (rw (← l.loop.invariant.kept) at l.before.before.before.well-formed.1.0.0);
     }
 
@@ -39,19 +39,19 @@ add-to c =
     record {
       fits =
           lt_of_le_of_lt
-          (own-inside _ _ _ _ _ _ _ _ _ _ l.loop.invariant _ c.before.before.before.before.loop-test.true _ c.before.before.lengths-of.ensures.1)
+          (own_inside _ _ _ _ _ _ _ _ _ _ l.loop.invariant _ c.before.before.before.before.loop-test.true _ c.before.before.lengths-of.ensures.1)
           l.before.before.before.well-formed.1.1.0.0;
     }
 
 part-event-end : tie.Need-slice-bounds-event-end invariant-loop decreases-loop
 part-event-end c =
     let l = c.before.before.before.before.before in
-    ends-inside _ _ _ _ _ _ _ _ _ _ l.loop.invariant _ c.before.before.before.before.loop-test.true _ c.before.before.lengths-of.ensures.0
+    ends_inside _ _ _ _ _ _ _ _ _ _ l.loop.invariant _ c.before.before.before.before.loop-test.true _ c.before.before.lengths-of.ensures.0
 
 part-event-end-2 : tie.Need-slice-bounds-event-end-2 invariant-loop decreases-loop
 part-event-end-2 c =
     let l = c.before.before.before.before.before.before in
-    own-inside _ _ _ _ _ _ _ _ _ _ l.loop.invariant _ c.before.before.before.before.before.loop-test.true _
+    own_inside _ _ _ _ _ _ _ _ _ _ l.loop.invariant _ c.before.before.before.before.before.loop-test.true _
     c.before.before.before.lengths-of.ensures.1
 
 element-set-from-state : tie.Need-element-set-from-state invariant-loop decreases-loop
@@ -70,7 +70,7 @@ same_length : tie.Need-same-length invariant-loop decreases-loop
 same_length c = c.before.loop.invariant.kept
 
 returns : tie.Need-returns invariant-loop decreases-loop
-returns c = going-ends _ _ _ _ _ _ _ _ _ _ c.before.loop.invariant c.loop-test.false
+returns c = going_ends _ _ _ _ _ _ _ _ _ _ c.before.loop.invariant c.loop-test.false
 
 pub move-every-spec : {M : Type 1} → statement M
 move-every-spec =

@@ -3,19 +3,19 @@ use mathlib.Core.Path.{sym, ◌∙◌}
 use borrow.Author.Rules.{rules}
 use borrow.Author.Tests.{eq-eqb, ne_eqb}
 use Rattle.board.specs.CheckLaws.{few}
-use Rattle.board.specs.Power.{powerRefusal}
+use Rattle.board.specs.Power.{power_refusal}
 use Rattle.board.proofs.power.power_refusal.Statement.{statement}
 use Rattle.board.proofs.power.power_refusal.Tie as tie
 
 returns : tie.Need-returns
-unfolding powerRefusal
+unfolding power_refusal
 returns c = simp (← c.before.no-board.ensures, c.if1.true)
 
 all-parts-requires : tie.Need-all-parts-requires
 all-parts-requires c κs = few _ (sym c.before.no-board.ensures ∙ c.if1.false)
 
 returns-2 : tie.Need-returns-2
-unfolding powerRefusal
+unfolding power_refusal
 returns-2 c =
     let a = c.before.before in
     simp (← a.before.no-board.ensures, a.if1.false, ← c.before.all-parts.ensures, c.if2.true)
@@ -26,7 +26,7 @@ together-asked-requires c κs =
     few _ (sym a.before.no-board.ensures ∙ a.if1.false)
 
 returns-3 : tie.Need-returns-3
-unfolding powerRefusal
+unfolding power_refusal
 returns-3 c =
     let b = c.before.before in
     let a = b.before.before in
@@ -45,7 +45,7 @@ all-masked-requires c κs =
     few _ (sym a.before.no-board.ensures ∙ a.if1.false)
 
 returns-4 : tie.Need-returns-4
-unfolding powerRefusal
+unfolding power_refusal
 returns-4 c =
     let d = c.before.before in
     let b = d.before.before in
@@ -62,7 +62,7 @@ returns-4 c =
     )
 
 returns-5 : tie.Need-returns-5
-unfolding powerRefusal
+unfolding power_refusal
 returns-5 c =
     let d = c.before.before in
     let b = d.before.before in

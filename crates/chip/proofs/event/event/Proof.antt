@@ -15,7 +15,7 @@ returns : tie.Need-returns
 returns c =
     let args = c.before.before.before.before.before.before.before.before.before.before.before.before.args in
     let told = single args.serial.now args.array.now args.state args.code _ _ c.before.before.before.before.go.ensures in
-    (ap paper (c.answer-of.ensures ∙ told.0), told.1)
+    (ap paper (c.answer_of_lem.ensures ∙ told.0), told.1)
 
 returns-2 : tie.Need-returns-2
 returns-2 c =

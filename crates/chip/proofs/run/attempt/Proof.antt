@@ -3,7 +3,7 @@ use mathlib.Core.Path.{sym, ◌∙◌}
 use native.Mathlib.Nat.{lt_of_lt_of_le}
 use lib.Dec.{lit≤}
 use borrow.Author.Tests.{le-leb, lt-leb}
-use Rattle.chip.specs.EventLaws.{tried-known, tried-unknown}
+use Rattle.chip.specs.EventLaws.{tried_known, tried_unknown}
 use borrow.Author.Rules.{rules}
 use Rattle.chip.proofs.run.attempt.Statement.{statement}
 use Rattle.chip.proofs.run.attempt.Tie as tie
@@ -15,13 +15,13 @@ returns : tie.Need-returns
 returns c =
     let a = c.before.before.before.before in
     c.refuse.ensures
-    ∙ sym (tried-unknown a.args.f a.args.serial.now a.args.array.now a.args.state a.args.code a.requires.1 (le-leb _ _ c.before.if1.true))
+    ∙ sym (tried_unknown a.args.f a.args.serial.now a.args.array.now a.args.state a.args.code a.requires.1 (le-leb _ _ c.before.if1.true))
 
 returns-2 : tie.Need-returns-2
 returns-2 c =
     let a = c.before.before.before.before in
     c.step.ensures
-    ∙ sym (tried-known a.args.f a.args.serial.now a.args.array.now a.args.state a.args.code a.requires.1 (lt-leb _ _ c.before.if1.false))
+    ∙ sym (tried_known a.args.f a.args.serial.now a.args.array.now a.args.state a.args.code a.requires.1 (lt-leb _ _ c.before.if1.false))
 
 pub attempt-spec : {M : Type 1} → statement M
 attempt-spec =

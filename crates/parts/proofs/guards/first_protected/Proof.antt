@@ -4,7 +4,7 @@ use mathlib.Core.Path.{◌≡◌, ◌∙◌}
 use mathlib.Core.Bool.{Bool, true, false}
 use mathlib.Core.Logic.{⊎_elim}
 use native.Mathlib.Omega.{arith}
-use Rattle.parts.specs.Guards.{guarded, is_set, firstProtected}
+use Rattle.parts.specs.Guards.{guarded, is_set, first_protected}
 use Rattle.parts.proofs.guards.first_protected.Statement.{statement}
 use Rattle.parts.proofs.guards.first_protected.Tie as tie
 
@@ -29,7 +29,7 @@ sub-result : tie.Need-overflow-sub-result
 sub-result c = rw (met c.before.before) (search fits)
 
 returns : tie.Need-returns
-unfolding firstProtected
+unfolding first_protected
 returns c = rw (met c.before.before)
 
 pub first-protected-spec : {M : Type 1} → statement M

@@ -9,7 +9,7 @@ unfolding rests
 returns c =
     let lines = c.before.before.before.before in
     simp
-    (c.is-asleep.ensures, c.before.is-closed.ensures, c.before.before.hold-high.ensures, lines.is-up2.ensures, lines.before.is_up.ensures)
+    (c.is-asleep.ensures, c.before.is-closed.ensures, c.before.before.hold_high_lem.ensures, lines.is-up2.ensures, lines.before.is_up.ensures)
 
 pub rests-spec : {M : Type 1} → statement M
 rests-spec =

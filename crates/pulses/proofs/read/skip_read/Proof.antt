@@ -1,6 +1,6 @@
 -- Where a test says no, nothing is skipped; else whole bytes are.
 use mathlib.Core.Path.{refl}
-use Rattle.pulses.specs.SkipLaws.{skip-none, read-asks, read_out}
+use Rattle.pulses.specs.SkipLaws.{skip_none, read_asks, read_out}
 use borrow.Author.Rules.{rules}
 use Rattle.pulses.proofs.read.skip_read.Statement.{statement}
 use Rattle.pulses.proofs.read.skip_read.Tie as tie
@@ -9,7 +9,7 @@ read-on-requires : tie.Need-read-on-requires
 read-on-requires c κs =
     let given = c.before.before.before.before.before.before.before.before in
     let pre = given.requires in
-    read-asks given.args.stand given.args.array.now pre.0 pre.1.0 _ _ _ _ _ pre.1.1.0 pre.1.1.1 refl
+    read_asks given.args.stand given.args.array.now pre.0 pre.1.0 _ _ _ _ _ pre.1.1.0 pre.1.1.1 refl
 
 returns-5 : tie.Need-returns-5
 returns-5 c =
@@ -23,13 +23,13 @@ skip-read-spec =
     tie.close
     (tie.spec
     (λ c κs. search rules)
-    (λ c. skip-none _ _ _ _ c.nothing.ensures)
+    (λ c. skip_none _ _ _ _ c.nothing.ensures)
     (λ c κs. search rules)
-    (λ c. skip-none _ _ _ _ c.nothing2.ensures)
+    (λ c. skip_none _ _ _ _ c.nothing2.ensures)
     (λ c κs. search rules)
-    (λ c. skip-none _ _ _ _ c.nothing3.ensures)
+    (λ c. skip_none _ _ _ _ c.nothing3.ensures)
     (λ c κs. search rules)
-    (λ c. skip-none _ _ _ _ c.nothing4.ensures)
+    (λ c. skip_none _ _ _ _ c.nothing4.ensures)
     read-on-requires
     (λ c. search rules)
     (λ c. search rules)

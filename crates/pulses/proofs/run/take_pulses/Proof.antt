@@ -2,10 +2,10 @@
 -- leave that as it is.
 use mathlib.Core.Path.{◌≡◌, ◌∙◌}
 use lib.ListN.{length}
-use Rattle.turns.specs.Bench.{benchOf, onPage}
+use Rattle.turns.specs.Bench.{bench_of, on_page}
 use Rattle.turns.specs.Page.{page_of}
 use Rattle.pulses.specs.Pulse.{pulsed}
-use Rattle.pulses.specs.RunLaws.{pulse-stays, pulses-on, pulses-none, pulses-over, skips-on}
+use Rattle.pulses.specs.RunLaws.{pulse_stays, pulses_on, pulses_none, pulses_over, skips_on}
 use borrow.Author.Rules.{rules}
 use Rattle.pulses.proofs.run.take_pulses.Statement.{statement}
 use Rattle.pulses.proofs.run.take_pulses.Tie as tie
@@ -13,8 +13,8 @@ use Rattle.pulses.proofs.run.take_pulses.Tie as tie
 abbrev invariant-loop : tie.invariant-loop
 invariant-loop array₀ shown₀ out₀ pulses turn₀ left₀ array shown out turn left =
     (length array ≡ length array₀) × (length out ≡ length out₀)
-    × (onPage (page_of out turn.at) (pulsed left (benchOf turn array shown))
-    ≡ onPage (page_of out₀ turn₀.at) (pulsed pulses (benchOf turn₀ array₀ shown₀)))
+    × (on_page (page_of out turn.at) (pulsed left (bench_of turn array shown))
+    ≡ on_page (page_of out₀ turn₀.at) (pulsed pulses (bench_of turn₀ array₀ shown₀)))
 
 abbrev decreases-loop : tie.decreases-loop
 decreases-loop array₀ shown₀ out₀ pulses turn₀ left₀ array shown out turn left = left
@@ -26,16 +26,16 @@ loop-again c =
     let loop = skip.before.before.before.before.before.before in (
       search rules,
       search rules,
-      pulses-on _ _ _ _ _ _ _ _ _ pulse.before.before.before.before.if2.false pulse.take-pulse.ensures
-          ∙ skips-on _ _ _ _ _ _ _ skip.before.before.before.if1.false skip.skip.ensures.1
+      pulses_on _ _ _ _ _ _ _ _ _ pulse.before.before.before.before.if2.false pulse.take-pulse.ensures
+          ∙ skips_on _ _ _ _ _ _ _ skip.before.before.before.if1.false skip.skip.ensures.1
           ∙ loop.loop.invariant.2,
     )
 
 returns-2 : tie.Need-returns-2 invariant-loop decreases-loop
 returns-2 c =
     let skip = c.before.before.before.before in
-    pulses-none _ _ _ _ _ c.if2.true
-    ∙ skips-on _ _ _ _ _ _ _ skip.before.before.before.if1.false skip.skip.ensures.1
+    pulses_none _ _ _ _ _ c.if2.true
+    ∙ skips_on _ _ _ _ _ _ _ skip.before.before.before.if1.false skip.skip.ensures.1
     ∙ skip.before.before.before.before.before.before.loop.invariant.2
 
 pub take-pulses-spec : {M : Type 1} → statement M
@@ -47,7 +47,7 @@ take-pulses-spec =
     (λ c. search rules)
     (λ c. search rules)
     (λ c. search rules)
-    (λ c. search (pulse-stays, ◌∙◌))
+    (λ c. search (pulse_stays, ◌∙◌))
     (λ c κs. search rules)
     (λ c. search rules)
     (λ c. search rules)
@@ -58,4 +58,4 @@ take-pulses-spec =
     loop-again
     (λ c. search rules)
     (λ c. search rules)
-    (λ c. search (pulses-over, ◌∙◌)))
+    (λ c. search (pulses_over, ◌∙◌)))

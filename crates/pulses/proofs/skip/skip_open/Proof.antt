@@ -1,5 +1,5 @@
 -- A select that is over counts its clocks, a READ shows whole bytes, a WRITE stores them; nothing is skipped in the others.
-use Rattle.pulses.specs.SkipLaws.{skip-none, over-room, skip-over}
+use Rattle.pulses.specs.SkipLaws.{skip_none, over_room, skip_over}
 use borrow.Author.Rules.{rules}
 use Rattle.pulses.proofs.skip.skip_open.Statement.{statement}
 use Rattle.pulses.proofs.skip.skip_open.Tie as tie
@@ -9,14 +9,14 @@ returns c =
     let counted = c.before in
     let stage = counted.before.before in
     let pre = stage.before.before.before.before.requires in
-    skip-over _ _ pre.0 pre.1.0 _ _ _ pre.1.1 stage.enum_told.given.1 counted.count-more.ensures
+    skip_over _ _ pre.0 pre.1.0 _ _ _ pre.1.1 stage.enum_told.given.1 counted.count-more.ensures
 
 pub skip-open-spec : {M : Type 1} → statement M
 skip-open-spec =
     tie.close
     (tie.spec
     (λ c. search rules)
-    (λ c κs. over-room _ _ c.before.before.before.before.before.requires.1.1)
+    (λ c κs. over_room _ _ c.before.before.before.before.before.requires.1.1)
     (λ c. search rules)
     (λ c κs. search rules)
     (λ c. search rules)
@@ -27,4 +27,4 @@ skip-open-spec =
     (λ c. search rules)
     (λ c. search rules)
     (λ c. search rules)
-    (λ c. skip-none _ _ _ _ c.nothing.ensures))
+    (λ c. skip_none _ _ _ _ c.nothing.ensures))

@@ -6,7 +6,7 @@ use Rattle.pulses.proofs.sums.is_idle.Tie as tie
 
 returns : tie.Need-returns
 unfolding idle
-returns c = simp (c.is-closed.ensures, c.before.hold-high.ensures)
+returns c = simp (c.is-closed.ensures, c.before.hold_high_lem.ensures)
 
 pub is-idle-spec : {M : Type 1} → statement M
 is-idle-spec = tie.close (tie.spec (λ c κs. search rules) (λ c κs. search rules) returns)

@@ -4,8 +4,8 @@ use Prim.Native.Nat.{ℕ, ◌+◌, ◌%◌, ◌<◌}
 use native.Mathlib.Nat.{mod-lt}
 use native.Mathlib.Omega.{arith}
 use lib.ListN.{length}
-use Rattle.pulses.specs.Sums.{fillBytes}
-use Rattle.pulses.specs.FillLaws.{put-length, fill_on, fill-over}
+use Rattle.pulses.specs.Sums.{fill_bytes}
+use Rattle.pulses.specs.FillLaws.{put_length, fill_on, fill_over}
 use borrow.Author.Rules.{rules}
 use Rattle.pulses.proofs.write.fill.Statement.{statement}
 use Rattle.pulses.proofs.write.fill.Tie as tie
@@ -13,7 +13,7 @@ use Rattle.pulses.proofs.write.fill.Tie as tie
 abbrev invariant-loop : tie.invariant-loop
 invariant-loop array₀ limit byte start bytes at₀ left₀ array at left =
     (length array ≡ length array₀) × (at < length array₀)
-    × (fillBytes (length array₀) limit byte left at array ≡ fillBytes (length array₀) limit byte bytes start array₀)
+    × (fill_bytes (length array₀) limit byte left at array ≡ fill_bytes (length array₀) limit byte bytes start array₀)
 
 abbrev decreases-loop : tie.decreases-loop
 decreases-loop array₀ limit byte start bytes at₀ left₀ array at left = left
@@ -24,7 +24,7 @@ loop-again c =
     let loop = put.before.before.before in
     let given = loop.before.before.args in
     let inside = loop.loop.invariant.1 in
-    let same = ap length put.put_byte.ensures ∙ put-length given.limit given.byte loop.loop.array loop.loop.at ∙ loop.loop.invariant.0 in
+    let same = ap length put.put_byte.ensures ∙ put_length given.limit given.byte loop.loop.array loop.loop.at ∙ loop.loop.invariant.0 in
     let next = c.next.ensures ∙ ap (λ (n : ℕ). (loop.loop.at + 1) % n) same in (
       same,
       rw next (mod-lt (loop.loop.at + 1) (omega (arith, inside))),
@@ -44,4 +44,4 @@ fill_spec =
     (λ c. search rules)
     loop-again
     (λ c. search rules)
-    (λ c. search (fill-over, ◌∙◌)))
+    (λ c. search (fill_over, ◌∙◌)))

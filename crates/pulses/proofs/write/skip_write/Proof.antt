@@ -1,7 +1,7 @@
 -- Where a test says no, nothing is skipped; else whole bytes are.
 use mathlib.Core.Path.{refl}
-use Rattle.pulses.specs.SkipLaws.{skip-none}
-use Rattle.pulses.specs.WriteOnLaws.{write-inside, write-asks, write-out}
+use Rattle.pulses.specs.SkipLaws.{skip_none}
+use Rattle.pulses.specs.WriteOnLaws.{write_inside, write_asks, write_out}
 use borrow.Author.Rules.{rules}
 use Rattle.pulses.proofs.write.skip_write.Statement.{statement}
 use Rattle.pulses.proofs.write.skip_write.Tie as tie
@@ -10,20 +10,20 @@ write-on-requires : tie.Need-write-on-requires
 write-on-requires c κs =
     let given = c.before.before.before.before in
     let pre = given.requires in
-    write-asks given.args.stand given.args.array.now pre.0 pre.1.0 _ _ _ _ _ _ pre.1.1.0 pre.1.1.1 refl
+    write_asks given.args.stand given.args.array.now pre.0 pre.1.0 _ _ _ _ _ _ pre.1.1.0 pre.1.1.1 refl
 
 write-bytes-requires : tie.Need-write-bytes-requires
 write-bytes-requires c κs =
     let given = c.before.before.before.before.before.before in
     let pre = given.requires in
-    write-inside given.args.stand given.args.array.now pre.0 pre.1.0 _ _ _ _ pre.1.1.1
+    write_inside given.args.stand given.args.array.now pre.0 pre.1.0 _ _ _ _ pre.1.1.1
 
 returns-3 : tie.Need-returns-3
 returns-3 c =
     let write = c.before.before in
     let tests = write.before.before.before in
     let pre = tests.before.before.before.before.requires in
-    write-out _ _ pre.0 pre.1.0 _ _ _ _ _ _ _ _ pre.1.1.0 pre.1.1.1 tests.before.if1.false tests.if2.false refl
+    write_out _ _ pre.0 pre.1.0 _ _ _ _ _ _ _ _ pre.1.1.0 pre.1.1.1 tests.before.if1.false tests.if2.false refl
     write.before.before.write-on.ensures write.write_bytes.ensures
 
 pub skip-write-spec : {M : Type 1} → statement M
@@ -31,9 +31,9 @@ skip-write-spec =
     tie.close
     (tie.spec
     (λ c κs. search rules)
-    (λ c. skip-none _ _ _ _ c.nothing.ensures)
+    (λ c. skip_none _ _ _ _ c.nothing.ensures)
     (λ c κs. search rules)
-    (λ c. skip-none _ _ _ _ c.nothing2.ensures)
+    (λ c. skip_none _ _ _ _ c.nothing2.ensures)
     write-on-requires
     write-bytes-requires
     (λ c. search rules)

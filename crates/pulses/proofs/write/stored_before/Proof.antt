@@ -1,16 +1,16 @@
 -- No more bytes are stored than places were gone over, so that the sums fit.
 use native.Mathlib.Omega.{arith}
 use Rattle.pulses.specs.Sums.{before}
-use Rattle.pulses.specs.FillLaws.{rounds-fit, before-fits}
+use Rattle.pulses.specs.FillLaws.{rounds_fit, before_fits}
 use borrow.Author.Rules.{rules}
 use Rattle.pulses.proofs.write.stored_before.Statement.{statement}
 use Rattle.pulses.proofs.write.stored_before.Tie as tie
 
 mul-result : tie.Need-overflow-mul-result
-mul-result c = omega (arith, rounds-fit _ _ c.requires.0 c.requires.1 c.args.place)
+mul-result c = omega (arith, rounds_fit _ _ c.requires.0 c.requires.1 c.args.place)
 
 add-result : tie.Need-overflow-add-result
-add-result c = omega (arith, c.least.ensures, before-fits _ _ c.before.requires.0 c.before.requires.1 c.before.args.place)
+add-result c = omega (arith, c.least.ensures, before_fits _ _ c.before.requires.0 c.before.requires.1 c.before.args.place)
 
 returns : tie.Need-returns
 unfolding before

@@ -1,14 +1,14 @@
 -- The counts, the byte stored last and the address are those of the definition.
-use Rattle.pulses.specs.Sums.{writeOn}
+use Rattle.pulses.specs.Sums.{write_on}
 use borrow.Author.Rules.{rules}
 use Rattle.pulses.proofs.write.write_on.Statement.{statement}
 use Rattle.pulses.proofs.write.write_on.Tie as tie
 
 returns : tie.Need-returns
-unfolding writeOn
+unfolding write_on
 returns c =
     let last = c.before in
-    simp (c.count-more.ensures, last.last_stored.ensures, last.before.stored-in.ensures.0, last.before.before.store-limit.ensures)
+    simp (c.count-more.ensures, last.last_stored.ensures, last.before.stored_in_lem.ensures.0, last.before.before.store-limit.ensures)
 
 pub write-on-spec : {M : Type 1} → statement M
 write-on-spec =

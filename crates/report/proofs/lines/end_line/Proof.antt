@@ -3,7 +3,7 @@ use mathlib.Core.Bool.{Bool, true, false, cond}
 use mathlib.Core.Path.{◌≡◌, refl}
 use mir.Val.{bool_byte}
 use native.Mathlib.Omega.{arith}
-use Rattle.report.specs.Lines.{endLine}
+use Rattle.report.specs.Lines.{end_line}
 use Rattle.report.proofs.Pieces.{◌then◌, line}
 use borrow.Author.Rules.{rules}
 use Rattle.report.proofs.lines.end_line.Statement.{statement}
@@ -15,7 +15,7 @@ digit true = refl
 digit false = refl
 
 returns : tie.Need-returns
-unfolding endLine
+unfolding end_line
 returns c =
     line (omega arith)
     (rw (digit _) at

@@ -1,13 +1,13 @@
 -- Each piece adds its text after the one before, and all of it fits.
 use native.Mathlib.Omega.{arith}
-use Rattle.report.specs.Lines.{partLine}
+use Rattle.report.specs.Lines.{part_line}
 use Rattle.report.proofs.Pieces.{◌then◌, line}
 use borrow.Author.Rules.{rules}
 use Rattle.report.proofs.lines.part_line.Statement.{statement}
 use Rattle.report.proofs.lines.part_line.Tie as tie
 
 returns : tie.Need-returns
-unfolding partLine
+unfolding part_line
 returns c =
     line (omega arith)
     (c.before.before.before.before.before.before.before.before.before.before.before.put-numbered.ensures.1

@@ -1,11 +1,11 @@
 -- Two signs, by whether the select is ignored and the number of clocks.
-use Rattle.report.specs.Lines.{codeText}
+use Rattle.report.specs.Lines.{code_text}
 use borrow.Author.Rules.{rules}
 use Rattle.report.proofs.lines.put_code.Statement.{statement}
 use Rattle.report.proofs.lines.put_code.Tie as tie
 
 pub put-code-spec : {M : Type 1} → statement M
-unfolding codeText
+unfolding code_text
 put-code-spec =
     tie.close
     (tie.spec

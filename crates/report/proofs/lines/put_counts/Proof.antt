@@ -1,13 +1,13 @@
 -- Each piece adds its text after the one before, and all of it fits.
 use native.Mathlib.Omega.{arith}
-use Rattle.report.specs.Lines.{countsText}
+use Rattle.report.specs.Lines.{counts_text}
 use Rattle.report.proofs.Pieces.{◌then◌}
 use borrow.Author.Rules.{rules}
 use Rattle.report.proofs.lines.put_counts.Statement.{statement}
 use Rattle.report.proofs.lines.put_counts.Tie as tie
 
 returns : tie.Need-returns
-unfolding countsText
+unfolding counts_text
 returns c = (
   omega arith,
   c.before.before.before.before.before.before.before.before.put.ensures

@@ -3,7 +3,7 @@ use mathlib.Core.Path.{sym}
 use native.Mathlib.Omega.{arith}
 use borrow.Author.Tests.{eq-eqb, ne_eqb, le-leb, lt-leb}
 use lib.Seq.{length-take-le}
-use Rattle.report.specs.Lines.{shownText}
+use Rattle.report.specs.Lines.{shown_text}
 use Rattle.report.proofs.Pieces.{◌then◌}
 use borrow.Author.Rules.{rules}
 use Rattle.report.proofs.lines.put_shown.Statement.{statement}
@@ -15,7 +15,7 @@ put-hexes-requires c κs =
     omega (arith, length-take-le args.whole args.shown.now (omega arith))
 
 returns-2 : tie.Need-returns-2
-unfolding shownText
+unfolding shown_text
 returns-2 c =
     let test = c.before.before.before in
     let args = test.before.before.before.args in (
@@ -24,7 +24,7 @@ returns-2 c =
     )
 
 returns-3 : tie.Need-returns-3
-unfolding shownText
+unfolding shown_text
 returns-3 c =
     let test = c.before.before.before.before.before in (
       omega arith,
@@ -33,7 +33,7 @@ returns-3 c =
     )
 
 pub put-shown-spec : {M : Type 1} → statement M
-unfolding shownText
+unfolding shown_text
 put-shown-spec =
     tie.close
     (tie.spec

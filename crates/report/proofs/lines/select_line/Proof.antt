@@ -1,13 +1,13 @@
 -- Each piece adds its text after the one before, and all of it fits.
 use native.Mathlib.Omega.{arith}
-use Rattle.report.specs.Lines.{selectLine}
+use Rattle.report.specs.Lines.{select_line}
 use Rattle.report.proofs.Pieces.{◌then◌, line}
 use borrow.Author.Rules.{rules}
 use Rattle.report.proofs.lines.select_line.Statement.{statement}
 use Rattle.report.proofs.lines.select_line.Tie as tie
 
 returns : tie.Need-returns
-unfolding selectLine
+unfolding select_line
 returns c =
     line (omega arith)
     (c.before.before.before.before.before.before.before.before.before.before.before.put-numbered.ensures.1

@@ -1,11 +1,11 @@
 -- The first eight rises have the op-code.
 use borrow.Author.Tests.{le-leb, lt-leb}
-use Rattle.report.specs.Record.{codeAfter}
+use Rattle.report.specs.Record.{code_after}
 use Rattle.report.proofs.record.code_after.Statement.{statement}
 use Rattle.report.proofs.record.code_after.Tie as tie
 
 pub code-after-spec : {M : Type 1} → statement M
-unfolding codeAfter
+unfolding code_after
 code-after-spec =
     tie.close
     (tie.spec

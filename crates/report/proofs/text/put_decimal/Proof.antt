@@ -2,8 +2,8 @@
 use mathlib.Core.Path.{◌∙◌}
 use Prim.Native.Nat.{◌≤◌}
 use native.Mathlib.Omega.{arith}
-use Rattle.report.specs.Text.{mostDigits, decimal}
-use Rattle.report.proofs.Decimals.{decimal-is, short}
+use Rattle.report.specs.Text.{most_digits, decimal}
+use Rattle.report.proofs.Decimals.{decimal_is, short}
 use Rattle.report.proofs.Pieces.{same}
 use borrow.Author.Rules.{rules}
 use Rattle.report.proofs.text.put_decimal.Statement.{statement}
@@ -19,8 +19,8 @@ unfolding decimal
 returns c =
     let made = c.before.before.before in
     let fewest = made.decimal.ensures.1 in
-    let few : made.decimal.result ≤ mostDigits = short _ _ made.before.before.ranges.n.fits fewest.0 in
-    (omega arith, same (fewest.1 ∙ decimal-is _ mostDigits _ fewest.0 few) c.put.ensures)
+    let few : made.decimal.result ≤ most_digits = short _ _ made.before.before.ranges.n.fits fewest.0 in
+    (omega arith, same (fewest.1 ∙ decimal_is _ most_digits _ fewest.0 few) c.put.ensures)
 
 pub put-decimal-spec : {M : Type 1} → statement M
 put-decimal-spec =

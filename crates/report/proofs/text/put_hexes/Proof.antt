@@ -6,7 +6,7 @@ use lib.ListN.{length, take}
 use lib.Seq.{take_all}
 use borrow.Author.Rules.{rules}
 use Rattle.report.specs.Text.{Puts, hexes}
-use Rattle.report.proofs.Pieces.{none, ◌then◌, same, hexes-more}
+use Rattle.report.proofs.Pieces.{none, ◌then◌, same, hexes_more}
 use Rattle.report.proofs.text.put_hexes.Statement.{statement}
 use Rattle.report.proofs.text.put_hexes.Tie as tie
 
@@ -22,7 +22,7 @@ loop-again c =
     let loop = c.before.before.before.before.loop in (
       omega arith,
       omega arith,
-      same (sym (hexes-more _ loop.i (omega arith))) (loop.invariant.2 then c.put-hex.ensures.1),
+      same (sym (hexes_more _ loop.i (omega arith))) (loop.invariant.2 then c.put-hex.ensures.1),
     )
 
 pub put-hexes-spec : {M : Type 1} → statement M

@@ -1,12 +1,12 @@
 -- The test is the definition's; a capital is far from the largest byte.
 use native.Mathlib.Omega.{arith}
-use Rattle.sayings.proofs.WordTurns.{in-range}
+use Rattle.sayings.proofs.WordTurns.{in_range}
 use Rattle.sayings.specs.Characters.{lowered}
 use Rattle.sayings.proofs.chars.lower.Statement.{statement}
 use Rattle.sayings.proofs.chars.lower.Tie as tie
 
 add-result : tie.Need-overflow-add-result
-add-result c = omega (arith, in-range 65 90 c.before.args.c c.if1.true)
+add-result c = omega (arith, in_range 65 90 c.before.args.c c.if1.true)
 
 returns : tie.Need-returns
 unfolding lowered

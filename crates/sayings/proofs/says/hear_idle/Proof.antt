@@ -1,20 +1,20 @@
 -- By whether the word is a number of pulses; then the item is a trace number.
 use native.Mathlib.Omega.{arith}
-use Rattle.sayings.specs.SaysLaws.{bounded, pulses-fit}
-use Rattle.sayings.specs.Says.{saidIdle}
+use Rattle.sayings.specs.SaysLaws.{bounded, pulses_fit}
+use Rattle.sayings.specs.Says.{said_idle}
 use borrow.Author.Rules.{rules}
 use Rattle.sayings.proofs.says.hear_idle.Statement.{statement}
 use Rattle.sayings.proofs.says.hear_idle.Tie as tie
 
 add-one : tie.Need-overflow-add-one
-add-one c = let few = bounded c.before.before.before.pulses-of.ensures c.before.n.given.1 (pulses-fit _) in omega arith
+add-one c = let few = bounded c.before.before.before.pulses-of.ensures c.before.n.given.1 (pulses_fit _) in omega arith
 
 returns : tie.Need-returns
-unfolding saidIdle
+unfolding said_idle
 returns c = simp (c.one.ensures, ← c.before.before.before.before.pulses-of.ensures, c.before.before.n.given.1)
 
 returns-2 : tie.Need-returns-2
-unfolding saidIdle
+unfolding said_idle
 returns-2 c = simp (← c.before.before.pulses-of.ensures, c.enum_told.given.1)
 
 pub hear-idle-spec : {M : Type 1} → statement M

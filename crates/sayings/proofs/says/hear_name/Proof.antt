@@ -1,15 +1,15 @@
 -- The test is the definition's.
-use Rattle.sayings.specs.Says.{saidName}
+use Rattle.sayings.specs.Says.{said_name}
 use borrow.Author.Rules.{rules}
 use Rattle.sayings.proofs.says.hear_name.Statement.{statement}
 use Rattle.sayings.proofs.says.hear_name.Tie as tie
 
 returns : tie.Need-returns
-unfolding saidName
+unfolding said_name
 returns c = simp (c.then.ensures, ← c.before.before.same.ensures, c.before.if1.true)
 
 returns-2 : tie.Need-returns-2
-unfolding saidName
+unfolding said_name
 returns-2 c = simp (← c.before.same.ensures, c.if1.false)
 
 pub hear-name-spec : {M : Type 1} → statement M

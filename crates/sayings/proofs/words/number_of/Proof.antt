@@ -4,13 +4,13 @@ use Prim.Native.Nat.{◌-◌, ◌≤◌}
 use lib.ListN.{length, drop}
 use borrow.Author.Rules.{rules}
 use Rattle.trace.specs.Figures.{largest}
-use Rattle.sayings.specs.Words.{number_of, digitsAfter}
-use Rattle.sayings.proofs.WordTurns.{number-stop, number-large, number-turn, number-end}
+use Rattle.sayings.specs.Words.{number_of, digits_after}
+use Rattle.sayings.proofs.WordTurns.{number_stop, number_large, number_turn, number_end}
 use Rattle.sayings.proofs.words.number_of.Statement.{statement}
 use Rattle.sayings.proofs.words.number_of.Tie as tie
 
 abbrev invariant-loop : tie.invariant-loop
-invariant-loop word n₀ i₀ n i = (n ≤ largest) × (digitsAfter n (drop i word) ≡ digitsAfter 0 word)
+invariant-loop word n₀ i₀ n i = (n ≤ largest) × (digits_after n (drop i word) ≡ digits_after 0 word)
 
 abbrev decreases-loop : tie.decreases-loop
 decreases-loop word n₀ i₀ n i = length word - i
@@ -21,5 +21,5 @@ number-of-spec =
     tie.close
     (tie.spec
     invariant-loop decreases-loop (λ c. search rules) (λ c. search rules) (λ c κs. search rules) (λ c κs. search rules)
-    (λ c. search number-stop) (λ c. search rules) (λ c. search rules) (λ c. search number-large) (λ c. search rules)
-    (λ c. search rules) (λ c. search number-turn) (λ c. search number-end))
+    (λ c. search number_stop) (λ c. search rules) (λ c. search rules) (λ c. search number_large) (λ c. search rules)
+    (λ c. search rules) (λ c. search number_turn) (λ c. search number_end))

@@ -3,13 +3,13 @@ use mathlib.Core.Path.{◌≡◌}
 use Prim.Native.Nat.{◌-◌}
 use lib.ListN.{length, drop}
 use borrow.Author.Rules.{rules}
-use Rattle.sayings.specs.Words.{named, sameAs}
+use Rattle.sayings.specs.Words.{named, same_as}
 use Rattle.sayings.proofs.WordTurns.{same_length, same_stop, same_turn, same_end}
 use Rattle.sayings.proofs.words.same.Statement.{statement}
 use Rattle.sayings.proofs.words.same.Tie as tie
 
 abbrev invariant-loop : tie.invariant-loop
-invariant-loop word name i₀ i = (length word ≡ length name) × (sameAs (drop i word) (drop i name) ≡ sameAs word name)
+invariant-loop word name i₀ i = (length word ≡ length name) × (same_as (drop i word) (drop i name) ≡ same_as word name)
 
 abbrev decreases-loop : tie.decreases-loop
 decreases-loop word name i₀ i = length word - i

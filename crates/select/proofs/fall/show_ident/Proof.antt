@@ -1,11 +1,11 @@
 -- The byte of the row, then its bit.
-use Rattle.select.specs.Fall.{showIdent}
+use Rattle.select.specs.Fall.{show_ident}
 use borrow.Author.Rules.{rules}
 use Rattle.select.proofs.fall.show_ident.Statement.{statement}
 use Rattle.select.proofs.fall.show_ident.Tie as tie
 
 returns : tie.Need-returns
-unfolding showIdent
+unfolding show_ident
 returns c = simp (c.bit-of.ensures, c.before.byte_at.ensures)
 
 pub show-ident-spec : {M : Type 1} → statement M

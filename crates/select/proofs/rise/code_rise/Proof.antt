@@ -1,15 +1,15 @@
 -- A bit more, or the whole op-code.
-use Rattle.select.specs.Rise.{codeRise}
+use Rattle.select.specs.Rise.{code_rise}
 use borrow.Author.Rules.{rules}
 use Rattle.select.proofs.rise.code_rise.Statement.{statement}
 use Rattle.select.proofs.rise.code_rise.Tie as tie
 
 returns : tie.Need-returns
-unfolding codeRise
+unfolding code_rise
 returns c = simp (c.to-stage.ensures, ← c.before.before.before.before.take-bit.ensures, c.before.before.taken.given.1)
 
 returns-2 : tie.Need-returns-2
-unfolding codeRise
+unfolding code_rise
 returns-2 c = simp (c.«open».ensures, ← c.before.before.before.before.take-bit.ensures, c.before.before.taken2.given.1)
 
 pub code-rise-spec : {M : Type 1} → statement M

@@ -1,17 +1,17 @@
 -- A further bit, or the whole byte: kept or held back by its own /WP.
-use Rattle.select.specs.Rise.{keepRise}
+use Rattle.select.specs.Rise.{keep_rise}
 use borrow.Author.Rules.{rules}
 use Rattle.select.proofs.rise.keep_rise.Statement.{statement}
 use Rattle.select.proofs.rise.keep_rise.Tie as tie
 
 returns : tie.Need-returns
-unfolding keepRise
+unfolding keep_rise
 returns c =
     let t = c.before.before.before.before in
     simp (c.to-stage.ensures, ← t.take-bit.ensures, ← t.before.byte-wp.ensures, c.before.before.taken.given.1)
 
 returns-2 : tie.Need-returns-2
-unfolding keepRise
+unfolding keep_rise
 returns-2 c =
     let b = c.before.before.before in
     let t = b.before.before.before in
@@ -19,7 +19,7 @@ returns-2 c =
     simp (← t.before.before.take-bit.ensures, ← first, ← b.before.is_up.ensures, ← b.may-keep.ensures, c.before.enum_told.given.1, t.taken2.given.1)
 
 returns-3 : tie.Need-returns-3
-unfolding keepRise
+unfolding keep_rise
 returns-3 c =
     let b = c.before.before.before in
     let t = b.before.before.before in

@@ -1,24 +1,24 @@
 -- A further bit, or the whole byte: stored or held back by its own /WP, and the address steps.
-use Rattle.select.specs.Rise.{writeRise}
+use Rattle.select.specs.Rise.{write_rise}
 use borrow.Author.Rules.{rules}
 use Rattle.select.proofs.rise.write_rise.Statement.{statement}
 use Rattle.select.proofs.rise.write_rise.Tie as tie
 
 returns : tie.Need-returns
-unfolding writeRise
+unfolding write_rise
 returns c =
     let t = c.before.before.before.before in
     simp (c.to-stage.ensures, ← t.byte-came.ensures, ← t.before.take-bit.ensures, c.before.before.taken.given.1)
 
 returns-2 : tie.Need-returns-2
-unfolding writeRise
+unfolding write_rise
 returns-2 c =
     let next = c.before.before in
     let judged = next.before in
     let whole = judged.before.before.before in
     let came = whole.before.before in
     simp (
-      c.last-by.ensures,
+      c.last_by_lem.ensures,
       c.before.store-note.ensures,
       next.Next-address.ensures,
       judged.may-store.ensures,

@@ -3,7 +3,7 @@ use mathlib.Core.Path.{refl, sym}
 use native.Mathlib.Omega.{arith}
 use lib.Seq.{length-take-le}
 use Rattle.serial.specs.Table.{table}
-use Rattle.serial.specs.CheckLaws.{says-yes, says-no, says-fifteen}
+use Rattle.serial.specs.CheckLaws.{says_yes, says_no, says_fifteen}
 use borrow.Author.Rules.{rules}
 use Rattle.serial.proofs.check.check.Statement.{statement}
 use Rattle.serial.proofs.check.check.Tie as tie
@@ -21,19 +21,19 @@ returns-2 : tie.Need-returns-2
 returns-2 c =
     let eight = c.before.before.before.before.before in
     let known = eight.before in
-    says-yes known.before.args.serial.now (λ i. (known.shared-slice-known.given i).fits) c.before.crc-of.ensures
+    says_yes known.before.args.serial.now (λ i. (known.shared-slice-known.given i).fits) c.before.crc-of.ensures
     eight.if1.false c.if2.true
 
 returns-3 : tie.Need-returns-3
 returns-3 c =
     let eight = c.before.before.before.before.before in
     let known = eight.before in
-    says-no known.before.args.serial.now (λ i. (known.shared-slice-known.given i).fits) c.before.crc-of.ensures
+    says_no known.before.args.serial.now (λ i. (known.shared-slice-known.given i).fits) c.before.crc-of.ensures
     eight.if1.false c.if2.false
 
 pub check-spec : {M : Type 1} → statement M
 check-spec =
     tie.close
     (tie.spec
-    (λ c. says-fifteen _ c.if1.true) (λ c. search rules) (λ c. search rules) (λ c. search rules) slice-aggregate-crc-of crc-of-requires
+    (λ c. says_fifteen _ c.if1.true) (λ c. search rules) (λ c. search rules) (λ c. search rules) slice-aggregate-crc-of crc-of-requires
     returns-2 returns-3)

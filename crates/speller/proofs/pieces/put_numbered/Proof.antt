@@ -2,8 +2,8 @@
 use mathlib.Core.Path.{◌∙◌}
 use Prim.Native.Nat.{◌≤◌}
 use native.Mathlib.Omega.{arith}
-use Rattle.report.specs.Text.{mostDigits, decimal}
-use Rattle.report.proofs.Decimals.{decimal-is, short}
+use Rattle.report.specs.Text.{most_digits, decimal}
+use Rattle.report.proofs.Decimals.{decimal_is, short}
 use Rattle.report.proofs.Pieces.{◌then◌, same}
 use borrow.Author.Rules.{rules}
 use Rattle.speller.proofs.pieces.put_numbered.Statement.{statement}
@@ -19,9 +19,9 @@ unfolding decimal
 returns c =
     let made = c.before.before.before in
     let fewest = made.decimal.ensures.1 in
-    let few : made.decimal.result ≤ mostDigits = short _ _ c.before.before.before.before.before.before.before.before.ranges.n.fits fewest.0 in (
+    let few : made.decimal.result ≤ most_digits = short _ _ c.before.before.before.before.before.before.before.before.ranges.n.fits fewest.0 in (
       omega (arith, c.put2.ensures.ends, c.before.before.before.before.before.put.ensures.ends),
-      c.before.before.before.before.before.put.ensures then same (fewest.1 ∙ decimal-is _ mostDigits _ fewest.0 few) c.put2.ensures,
+      c.before.before.before.before.before.put.ensures then same (fewest.1 ∙ decimal_is _ most_digits _ fewest.0 few) c.put2.ensures,
     )
 
 pub put-numbered-spec : {M : Type 1} → statement M

@@ -1,13 +1,13 @@
 -- Each piece adds its text behind the one before, and all of it fits.
 use native.Mathlib.Omega.{arith}
 use Rattle.report.proofs.Pieces.{◌then◌, line}
-use Rattle.speller.specs.Remarks.{wrongText}
+use Rattle.speller.specs.Remarks.{wrong_text}
 use borrow.Author.Rules.{rules}
 use Rattle.speller.proofs.remarks.put_wrong.Statement.{statement}
 use Rattle.speller.proofs.remarks.put_wrong.Tie as tie
 
 returns : tie.Need-returns
-unfolding wrongText
+unfolding wrong_text
 returns c =
     line (omega (arith, c.put2.ensures.ends, c.before.before.before.before.before.put.ensures.ends))
     (c.before.before.before.before.before.before.before.before.put-place.ensures.1

@@ -2,13 +2,13 @@
 use Prim.Native.Nat.{◌-◌}
 use lib.ListN.{length, drop}
 use borrow.Author.Rules.{rules}
-use Rattle.spelling.specs.Items.{forms, bitItems}
-use Rattle.spelling.proofs.LayTurns.{Laying, start, bit-more, bit-stop, bits-done}
+use Rattle.spelling.specs.Items.{forms, bit_items}
+use Rattle.spelling.proofs.LayTurns.{Laying, start, bit_more, bit_stop, bits_done}
 use Rattle.spelling.proofs.put.put_bits.Statement.{statement}
 use Rattle.spelling.proofs.put.put_bits.Tie as tie
 
 abbrev invariant-loop : tie.invariant-loop
-invariant-loop out₀ at word next₀ i₀ out next i = Laying out₀ at (forms (bitItems word)) out next (forms (bitItems (drop i word)))
+invariant-loop out₀ at word next₀ i₀ out next i = Laying out₀ at (forms (bit_items word)) out next (forms (bit_items (drop i word)))
 
 abbrev decreases-loop : tie.decreases-loop
 decreases-loop out₀ at word next₀ i₀ out next i = length word - i
@@ -19,5 +19,5 @@ put-bits-spec =
     (tie.spec
     invariant-loop decreases-loop (λ c. start _ _ _) (λ c. search rules) (λ c κs. search rules) (λ c κs. search rules)
     (λ c. search rules) (λ c. search rules) (λ c κs. search rules) (λ c. search rules) (λ c. search rules)
-    (λ c. search rules) (λ c. search bit-stop) (λ c. search rules) (λ c. search rules) (λ c. search bit-more)
-    (λ c. search rules) (λ c. search bits-done))
+    (λ c. search rules) (λ c. search bit_stop) (λ c. search rules) (λ c. search rules) (λ c. search bit_more)
+    (λ c. search rules) (λ c. search bits_done))

@@ -5,7 +5,7 @@ use native.Mathlib.Omega.{arith}
 use lib.ListN.{length, drop}
 use lib.Seq.{sets}
 use borrow.Author.Rules.{rules}
-use Rattle.spelling.proofs.SpellTurns.{copy-none, copy_start, copy-turn, copy-full, copy-end}
+use Rattle.spelling.proofs.SpellTurns.{copy_none, copy_start, copy_turn, copy_full, copy_end}
 use Rattle.spelling.proofs.spell.copy.Statement.{statement}
 use Rattle.spelling.proofs.spell.copy.Tie as tie
 
@@ -22,15 +22,15 @@ returns-2 : tie.Need-returns-2 invariant-loop decreases-loop
 returns-2 c =
     let loop = c.before.before.loop in
     let start = c.before.before.before.before.args in
-    copy-full start.bytes.now loop.out start.at loop.i (omega arith) loop.invariant.1
+    copy_full start.bytes.now loop.out start.at loop.i (omega arith) loop.invariant.1
 
 loop-again : tie.Need-loop-preserved invariant-loop decreases-loop
-loop-again c = (search rules, copy-turn _ _ _ _ c.before.before.loop-test.true c.before.before.before.loop.invariant.1)
+loop-again c = (search rules, copy_turn _ _ _ _ c.before.before.loop-test.true c.before.before.before.loop.invariant.1)
 
 pub copy_spec : {M : Type 1} → statement M
 copy_spec =
     tie.close
     (tie.spec
-    invariant-loop decreases-loop (λ c. search copy-none) (λ c. search rules) loop-holds (λ c. search rules) returns-2
+    invariant-loop decreases-loop (λ c. search copy_none) (λ c. search rules) loop-holds (λ c. search rules) returns-2
     (λ c. search rules) (λ c. search rules) (λ c. search rules) (λ c. search rules) (λ c. search rules) loop-again
-    (λ c. search rules) (λ c. search copy-end))
+    (λ c. search rules) (λ c. search copy_end))

@@ -1,17 +1,17 @@
 -- Wrong, or no room, or the items are put and the reading stands behind them.
-use Rattle.spelling.proofs.MarkTurns.{act-wrong, act-full, act-on}
+use Rattle.spelling.proofs.MarkTurns.{act_wrong, act_full, act_on}
 use borrow.Author.Rules.{rules}
 use Rattle.spelling.proofs.turns.act.Statement.{statement}
 use Rattle.spelling.proofs.turns.act.Tie as tie
 
 returns : tie.Need-returns
-returns c = search act-wrong
+returns c = search act_wrong
 
 returns-2 : tie.Need-returns-2
-returns-2 c = search act-full
+returns-2 c = search act_full
 
 returns-3 : tie.Need-returns-3
-returns-3 c = search act-on
+returns-3 c = search act_on
 
 pub act-spec : {M : Type 1} → statement M
 act-spec =

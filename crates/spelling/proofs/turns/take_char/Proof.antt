@@ -1,5 +1,5 @@
 -- The marks of the word that ends, and then that of the line.
-use Rattle.spelling.proofs.MarkTurns.{both-taken, wrong-taken, full-taken}
+use Rattle.spelling.proofs.MarkTurns.{both_taken, wrong_taken, full_taken}
 use borrow.Author.Rules.{rules}
 use Rattle.spelling.proofs.turns.take_char.Statement.{statement}
 use Rattle.spelling.proofs.turns.take_char.Tie as tie
@@ -15,13 +15,13 @@ returns-2 c =
     let line = c.before.before in
     let first = line.before.before.before in
     let took = first.before.before.before.before in
-    rw took.before.before.before.ended.given.1 (both-taken took.take-word.ensures first.first.given.1 line.turn-line2.ensures)
+    rw took.before.before.before.ended.given.1 (both_taken took.take-word.ensures first.first.given.1 line.turn-line2.ensures)
 
 returns-3 : tie.Need-returns-3
-returns-3 c = rw c.before.before.before.before.before.before.before.before.ended.given.1 (wrong-taken c.before.before.before.before.before.take-word.ensures _ c.before.first2.given.1)
+returns-3 c = rw c.before.before.before.before.before.before.before.before.ended.given.1 (wrong_taken c.before.before.before.before.before.take-word.ensures _ c.before.first2.given.1)
 
 returns-4 : tie.Need-returns-4
-returns-4 c = rw c.before.before.before.before.before.before.before.before.ended.given.1 (full-taken c.before.before.before.before.before.take-word.ensures _ c.before.first3.given.1)
+returns-4 c = rw c.before.before.before.before.before.before.before.before.ended.given.1 (full_taken c.before.before.before.before.before.take-word.ensures _ c.before.first3.given.1)
 
 pub take-char-spec : {M : Type 1} → statement M
 take-char-spec =

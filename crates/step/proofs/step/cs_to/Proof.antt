@@ -7,10 +7,10 @@ returns : tie.Need-returns
 returns c = simp (c.silent.ensures, ← c.before.before.before.cs.ensures, c.before.if2.true, c.before.before.if1.true)
 
 returns-2 : tie.Need-returns-2
-returns-2 c = simp (c.cs-rise.ensures, ← c.before.before.before.cs.ensures, c.before.if2.false, c.before.before.if1.true)
+returns-2 c = simp (c.cs_rise_lem.ensures, ← c.before.before.before.cs.ensures, c.before.if2.false, c.before.before.if1.true)
 
 returns-3 : tie.Need-returns-3
-returns-3 c = simp (c.cs-fall.ensures, ← c.before.before.before.cs.ensures, c.before.if3.true, c.before.before.if1.false)
+returns-3 c = simp (c.cs_fall_lem.ensures, ← c.before.before.before.cs.ensures, c.before.if3.true, c.before.before.if1.false)
 
 returns-4 : tie.Need-returns-4
 returns-4 c = simp (c.silent2.ensures, ← c.before.before.before.cs.ensures, c.before.if3.false, c.before.before.if1.false)

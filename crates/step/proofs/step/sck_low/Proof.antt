@@ -4,7 +4,7 @@ use Rattle.step.proofs.step.sck_low.Statement.{statement}
 use Rattle.step.proofs.step.sck_low.Tie as tie
 
 returns : tie.Need-returns
-returns c = simp (c.sck-fall.ensures, c.before.if1.true)
+returns c = simp (c.sck_fall_lem.ensures, c.before.if1.true)
 
 returns-2 : tie.Need-returns-2
 returns-2 c = simp (c.silent.ensures, c.before.if1.false)

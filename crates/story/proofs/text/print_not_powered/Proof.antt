@@ -1,12 +1,12 @@
 -- Each piece is printed behind the one before.
-use Rattle.story.specs.Story.{notPowered}
+use Rattle.story.specs.Story.{not_powered}
 use Rattle.words.proofs.Pages.{◌then◌}
 use borrow.Author.Rules.{rules}
 use Rattle.story.proofs.text.print_not_powered.Statement.{statement}
 use Rattle.story.proofs.text.print_not_powered.Tie as tie
 
 returns : tie.Need-returns
-unfolding notPowered
+unfolding not_powered
 returns c =
     let print = c.before.before in
     let print-refused = print.before.before.before.before.before in

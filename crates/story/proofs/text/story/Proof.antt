@@ -2,7 +2,7 @@
 use mathlib.Core.Path.{sym}
 use lib.Seq.{length-take-le}
 use Rattle.parts.specs.FigureLaws.{largest}
-use Rattle.story.proofs.Stories.{story-not, story-led}
+use Rattle.story.proofs.Stories.{story_not, story_led}
 use borrow.Author.Rules.{rules}
 use Rattle.story.proofs.text.story.Statement.{statement}
 use Rattle.story.proofs.text.story.Tie as tie
@@ -11,14 +11,14 @@ returns : tie.Need-returns
 returns c =
     let told = c.before.before in
     let test = told.before.before in
-    story-not _ _ _ _ test.before.before.head_of.ensures test.if1.true told.print-not-powered.ensures
+    story_not _ _ _ _ test.before.before.head_of.ensures test.if1.true told.print-not-powered.ensures
 
 returns-2 : tie.Need-returns-2
 returns-2 c =
     let told = c.before.before.before in
     let size = told.before.before.before in
     let test = size.before in
-    story-led _ _ _ _ test.before.before.head_of.ensures _ test.if1.false size.figure-of.ensures told.tell-power.ensures
+    story_led _ _ _ _ test.before.before.head_of.ensures _ test.if1.false size.figure-of.ensures told.tell-power.ensures
 
 pub story-spec : {M : Type 1} → statement M
 story-spec =

@@ -1,5 +1,5 @@
 -- The first line, the items, and the end.
-use Rattle.story.proofs.Stories.{from-power}
+use Rattle.story.proofs.Stories.{from_power_lem}
 use borrow.Author.Rules.{rules}
 use Rattle.story.proofs.text.tell_powered.Statement.{statement}
 use Rattle.story.proofs.text.tell_powered.Tie as tie
@@ -10,7 +10,7 @@ returns c =
     let items = ends.before.before.before.before.before.before.before.before in
     let first = items.before.before.before.before.before in
     let new = first.before.before in
-    from-power _ _ _ _ _ _ _ _ _ _ _ new.before.figure-of.ensures new.new.ensures first.print-power.ensures
+    from_power_lem _ _ _ _ _ _ _ _ _ _ _ new.before.figure-of.ensures new.new.ensures first.print-power.ensures
     items.tell-items.ensures ends.tell-end.ensures
 
 pub tell-powered-spec : {M : Type 1} → statement M

@@ -1,12 +1,12 @@
 -- Each piece is printed behind the one before.
-use Rattle.story.specs.Scene.{acceptedText}
+use Rattle.story.specs.Scene.{accepted_text}
 use Rattle.words.proofs.Pages.{◌then◌}
 use borrow.Author.Rules.{rules}
 use Rattle.story.proofs.told.tell_accepted.Statement.{statement}
 use Rattle.story.proofs.told.tell_accepted.Tie as tie
 
 returns : tie.Need-returns
-unfolding acceptedText
+unfolding accepted_text
 returns c =
     let print-note = c.before.before in
     let print-shown = print-note.before.before.before.before in

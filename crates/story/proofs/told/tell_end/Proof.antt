@@ -1,12 +1,12 @@
 -- Each piece is printed behind the one before.
-use Rattle.story.specs.Story.{endText}
+use Rattle.story.specs.Story.{end_text}
 use Rattle.words.proofs.Pages.{◌then◌}
 use borrow.Author.Rules.{rules}
 use Rattle.story.proofs.told.tell_end.Statement.{statement}
 use Rattle.story.proofs.told.tell_end.Tie as tie
 
 returns : tie.Need-returns
-unfolding endText
+unfolding end_text
 returns c =
     let print-array = c.before.before in
     let print-end = print-array.before.before.before.before in

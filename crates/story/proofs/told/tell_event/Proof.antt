@@ -1,6 +1,6 @@
 -- A refused event has its line and leaves all as it was; an accepted one is told by what stood before it, its answer, and what stands
 -- after it.
-use Rattle.story.proofs.Scenes.{refused-scene, refused-text, accepted-scene, accepted-text}
+use Rattle.story.proofs.Scenes.{refused_scene, refused_text, accepted_scene, accepted_text_lem}
 use borrow.Author.Rules.{rules}
 use Rattle.story.proofs.told.tell_event.Statement.{statement}
 use Rattle.story.proofs.told.tell_event.Tie as tie
@@ -12,8 +12,8 @@ returns c =
     let event = test.before.before.before.before in
     let turn = event.before.before.before.before.before.before.before.args.turn in
     let answer = event.event.ensures in (
-      refused-scene turn _ _ event.event.result _ answer.0 answer.1 test.if1.true,
-      refused-text turn _ _ event.event.result _ answer.0 answer.1 test.if1.true _ _ _ told.print-refused.ensures,
+      refused_scene turn _ _ event.event.result _ answer.0 answer.1 test.if1.true,
+      refused_text turn _ _ event.event.result _ answer.0 answer.1 test.if1.true _ _ _ told.print-refused.ensures,
     )
 
 returns-2 : tie.Need-returns-2
@@ -24,8 +24,8 @@ returns-2 c =
     let event = test.before.before.before.before in
     let turn = event.before.before.before.before.before.before.before.args.turn in
     let answer = event.event.ensures in (
-      accepted-scene turn _ _ event.event.result _ answer.0 answer.1 _ test.if1.false moved.after.ensures.0,
-      accepted-text turn _ _ event.event.result _ answer.0 answer.1 _ test.if1.false moved.after.ensures.0 _ _ _
+      accepted_scene turn _ _ event.event.result _ answer.0 answer.1 _ test.if1.false moved.after.ensures.0,
+      accepted_text_lem turn _ _ event.event.result _ answer.0 answer.1 _ test.if1.false moved.after.ensures.0 _ _ _
           told.tell-accepted.ensures,
     )
 

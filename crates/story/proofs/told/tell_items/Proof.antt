@@ -3,11 +3,11 @@
 use mathlib.Core.Path.{◌≡◌, refl, ◌∙◌}
 use Prim.Native.Nat.{◌-◌}
 use lib.ListN.{length}
-use Rattle.trace.specs.NumberLaws.{less-left}
+use Rattle.trace.specs.NumberLaws.{less_left}
 use Rattle.turns.specs.Page.{page_of, printed}
 use Rattle.story.specs.Scene.{scene_of}
-use Rattle.story.specs.Story.{leftText}
-use Rattle.story.proofs.Stories.{left-stays, left-number, left_end, left-refused}
+use Rattle.story.specs.Story.{left_text}
+use Rattle.story.proofs.Stories.{left_stays, left_number, left_end, left_refused}
 use borrow.Author.Rules.{rules}
 use Rattle.story.proofs.told.tell_items.Statement.{statement}
 use Rattle.story.proofs.told.tell_items.Tie as tie
@@ -15,8 +15,8 @@ use Rattle.story.proofs.told.tell_items.Tie as tie
 abbrev invariant-loop : tie.invariant-loop
 invariant-loop trace at array₀ out₀ turn₀ place₀ array out turn place =
     (length array ≡ length array₀) × (length out ≡ length out₀)
-    × (printed (page_of out turn.at) (leftText trace place (scene_of turn array))
-    ≡ printed (page_of out₀ turn₀.at) (leftText trace at (scene_of turn₀ array₀)))
+    × (printed (page_of out turn.at) (left_text trace place (scene_of turn array))
+    ≡ printed (page_of out₀ turn₀.at) (left_text trace at (scene_of turn₀ array₀)))
 
 abbrev decreases-loop : tie.decreases-loop
 decreases-loop trace at array₀ out₀ turn₀ place₀ array out turn place = length trace - place
@@ -30,7 +30,7 @@ loop-again c =
     let loop = on.before.before.loop in (
       search rules,
       search rules,
-      left-number _ _ _ loop.turn _ read.number_at.ensures on.if1.true _ _ told.tell-item.result _ _ _ got.value.given.1
+      left_number _ _ _ loop.turn _ read.number_at.ensures on.if1.true _ _ told.tell-item.result _ _ _ got.value.given.1
           told.tell-item.ensures.0 told.tell-item.ensures.1
           ∙ loop.invariant.2,
     )
@@ -50,7 +50,7 @@ returns-2 c =
     let read = got.before.before in
     let on = read.before in
     let loop = on.before.before.loop in
-    left-refused _ _ _ loop.turn _ read.number_at.ensures on.if1.true _ _ _ _ _ got.refusal.given.1 row.number_of_lem.ensures
+    left_refused _ _ _ loop.turn _ read.number_at.ensures on.if1.true _ _ _ _ _ got.refusal.given.1 row.number_of_lem.ensures
     told.print-refused.ensures
     ∙ loop.invariant.2
 
@@ -64,7 +64,7 @@ tell-items-spec =
     (λ c κs. search rules)
     (λ c. search rules)
     (λ c κs. search rules)
-    (λ c. search less-left)
+    (λ c. search less_left)
     loop-again
     (λ c. search rules)
     (λ c. search rules)
@@ -78,4 +78,4 @@ tell-items-spec =
     returns-2
     (λ c. search rules)
     (λ c. search rules)
-    (λ c. let loop = c.before.before.loop in left-stays _ _ loop.turn _ _ c.if1.false ∙ loop.invariant.2))
+    (λ c. let loop = c.before.before.loop in left_stays _ _ loop.turn _ _ c.if1.false ∙ loop.invariant.2))

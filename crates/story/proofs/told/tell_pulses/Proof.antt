@@ -1,12 +1,12 @@
 -- Each piece is printed behind the one before.
-use Rattle.story.specs.Scene.{pulsesText}
+use Rattle.story.specs.Scene.{pulses_text}
 use Rattle.words.proofs.Pages.{◌then◌}
 use borrow.Author.Rules.{rules}
 use Rattle.story.proofs.told.tell_pulses.Statement.{statement}
 use Rattle.story.proofs.told.tell_pulses.Tie as tie
 
 returns : tie.Need-returns
-unfolding pulsesText
+unfolding pulses_text
 returns c =
     let tell-turned = c.before.before in
     let tell-changes = tell-turned.before.before.before.before in

@@ -3,10 +3,10 @@
 use mathlib.Core.Path.{◌≡◌, refl, ◌∙◌}
 use Prim.Native.Nat.{◌-◌}
 use lib.ListN.{length, drop}
-use Rattle.trace.specs.Items.{shortEvents}
+use Rattle.trace.specs.Items.{short_events}
 use Rattle.turns.specs.Page.{page_of, printed}
-use Rattle.story.specs.Scene.{scene_of, eventsScene, eventsText}
-use Rattle.story.proofs.Scenes.{events-on, texts-on, events-end, texts-end, events-over, texts-over}
+use Rattle.story.specs.Scene.{scene_of, events_scene, events_text}
+use Rattle.story.proofs.Scenes.{events_on, texts_on, events_end, texts_end, events_over, texts_over}
 use borrow.Author.Rules.{rules}
 use Rattle.story.proofs.told.tell_short.Statement.{statement}
 use Rattle.story.proofs.told.tell_short.Tie as tie
@@ -14,9 +14,9 @@ use Rattle.story.proofs.told.tell_short.Tie as tie
 abbrev invariant-loop : tie.invariant-loop
 invariant-loop array₀ out₀ place item events turn₀ k₀ array out turn k =
     (length array ≡ length array₀) × (length out ≡ length out₀)
-    × (eventsScene (scene_of turn array) (drop k (shortEvents item)) ≡ eventsScene (scene_of turn₀ array₀) (shortEvents item))
-    × (printed (page_of out turn.at) (eventsText (scene_of turn array) place (drop k (shortEvents item)))
-    ≡ printed (page_of out₀ turn₀.at) (eventsText (scene_of turn₀ array₀) place (shortEvents item)))
+    × (events_scene (scene_of turn array) (drop k (short_events item)) ≡ events_scene (scene_of turn₀ array₀) (short_events item))
+    × (printed (page_of out turn.at) (events_text (scene_of turn array) place (drop k (short_events item)))
+    ≡ printed (page_of out₀ turn₀.at) (events_text (scene_of turn₀ array₀) place (short_events item)))
 
 abbrev decreases-loop : tie.decreases-loop
 decreases-loop array₀ out₀ place item events turn₀ k₀ array out turn k = events - k
@@ -32,8 +32,8 @@ loop-again c =
     let one = told.tell-event.ensures in (
       search rules,
       search rules,
-      events-on _ _ _ _ loop.turn _ told.tell-event.result _ long test.loop-test.true is on.if1.false one.0 ∙ loop.invariant.2,
-      texts-on _ _ _ _ loop.turn _ told.tell-event.result _ long test.loop-test.true is on.if1.false one.0 _ _ _ one.1 ∙ loop.invariant.3,
+      events_on _ _ _ _ loop.turn _ told.tell-event.result _ long test.loop-test.true is on.if1.false one.0 ∙ loop.invariant.2,
+      texts_on _ _ _ _ loop.turn _ told.tell-event.result _ long test.loop-test.true is on.if1.false one.0 _ _ _ one.1 ∙ loop.invariant.3,
     )
 
 returns : tie.Need-returns invariant-loop decreases-loop
@@ -41,9 +41,9 @@ returns c =
     let round = c.before.before.before in
     let loop = round.loop in
     let args = round.before.before.before.before.args in
-    let es = shortEvents args.item in (
-      events-end es loop.k loop.turn _ _ c.if1.true loop.invariant.2,
-      texts-end es args.place loop.k loop.turn _ _ _ _ c.if1.true loop.invariant.3,
+    let es = short_events args.item in (
+      events_end es loop.k loop.turn _ _ c.if1.true loop.invariant.2,
+      texts_end es args.place loop.k loop.turn _ _ _ _ c.if1.true loop.invariant.3,
     )
 
 returns-2 : tie.Need-returns-2 invariant-loop decreases-loop
@@ -51,9 +51,9 @@ returns-2 c =
     let loop = c.before.loop in
     let long = c.before.before.events-of.ensures in
     let args = c.before.before.before.before.before.args in
-    let es = shortEvents args.item in (
-      events-over es loop.k _ loop.turn _ _ long c.loop-test.false loop.invariant.2,
-      texts-over es args.place loop.k _ loop.turn _ _ _ _ long c.loop-test.false loop.invariant.3,
+    let es = short_events args.item in (
+      events_over es loop.k _ loop.turn _ _ long c.loop-test.false loop.invariant.2,
+      texts_over es args.place loop.k _ loop.turn _ _ _ _ long c.loop-test.false loop.invariant.3,
     )
 
 pub tell-short-spec : {M : Type 1} → statement M

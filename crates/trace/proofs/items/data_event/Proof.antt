@@ -2,7 +2,7 @@
 use Prim.Native.Nat.{◌-◌, ◌/◌, ◌^◌}
 use native.Mathlib.Omega.{arith}
 use lib.Bits.{and_le_r}
-use Rattle.trace.proofs.Pulses.{si-beat, up-beat, down-beat}
+use Rattle.trace.proofs.Pulses.{si_beat, up_beat, down_beat}
 use borrow.Author.Rules.{rules}
 use Rattle.trace.proofs.items.data_event.Statement.{statement}
 use Rattle.trace.proofs.items.data_event.Tie as tie
@@ -14,6 +14,6 @@ data-event-spec =
     (λ c. search rules)
     (λ c. search rules)
     (λ c. omega (arith, and_le_r (c.before.args.byte / 2 ^ (7 - c.before.args.k / 3)) 1))
-    (λ c. search si-beat)
-    (λ c. search up-beat)
-    (λ c. search down-beat))
+    (λ c. search si_beat)
+    (λ c. search up_beat)
+    (λ c. search down_beat))

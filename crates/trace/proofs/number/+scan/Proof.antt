@@ -13,8 +13,8 @@ use lib.Bits.{and_le_r}
 use lib.ListN.{get_or}
 use Rattle.trace.specs.declared.number.Shape.TheVariants.{Whole}
 use Rattle.trace.specs.Form.{scanned}
-use Rattle.trace.proofs.Packing.{low-group, joined, eight-groups}
-use Rattle.trace.specs.ScanLaws.{extended, scanned-none, scanned-past, scanned-last, scanned-more, scanned-small}
+use Rattle.trace.proofs.Packing.{low_group, joined, eight_groups}
+use Rattle.trace.specs.ScanLaws.{extended, scanned_none, scanned_past, scanned_last, scanned_more, scanned_small}
 use Rattle.trace.proofs.number.scan.Reads as scan
 use Rattle.trace.proofs.number.scan.Kinds as scan-kinds
 use Rattle.trace.proofs.number.+scan.Lts-scan as scan-lts
@@ -33,10 +33,10 @@ scan-below t = and 1 scan-kinds.ps (falls 1 scan-kinds.ps ◌<◌ μ-scan t) sca
 scan-returns : (t : ℕ) → scan-lts.Need-returns (scan-below t, scan.Post) (scan-at t) scan.Post
 scan-returns t c =
     let a = c.before.before.args in
-    sym (ap (scanned a.s.now a.at) c.if1.true ∙ scanned-none a.s.now a.at)
+    sym (ap (scanned a.s.now a.at) c.if1.true ∙ scanned_none a.s.now a.at)
 
 scan-returns-2 : (t : ℕ) → scan-lts.Need-returns-2 (scan-below t, scan.Post) (scan-at t) scan.Post
-scan-returns-2 t c = sym (scanned-past _ _ _ c.if2.true)
+scan-returns-2 t c = sym (scanned_past _ _ _ c.if2.true)
 
 scan-cast-group :
     (t : ℕ) → scan-lts.Need-overflow-cast-group (scan-below t, scan.Post) (scan-at t) scan.Post
@@ -48,7 +48,7 @@ scan-returns-3 : (t : ℕ) → scan-lts.Need-returns-3 (scan-below t, scan.Post)
 scan-returns-3 t c =
     let a = c.before.before.before.before.before.args in
     let inside = c.before.before.if2.false in
-    sym (scanned-last a.s.now a.at inside a.room (search rules) c.if3.true ∙ ap (λ (n : ℕ). Whole n (a.at + 1)) (sym (low-group (get_or a.s.now a.at 0) ∙ mod-eq_of_lt c.if3.true)))
+    sym (scanned_last a.s.now a.at inside a.room (search rules) c.if3.true ∙ ap (λ (n : ℕ). Whole n (a.at + 1)) (sym (low_group (get_or a.s.now a.at 0) ∙ mod-eq_of_lt c.if3.true)))
 
 -- behind a byte with the top bit set
 behind :
@@ -56,7 +56,7 @@ behind :
     → let a = c.before.before.before.before.before.args in scanned a.s.now a.at a.room ≡ extended (get_or a.s.now a.at 0 % 128) (scanned a.s.now (a.at + 1) (a.room - 1))
 behind t c =
     let a = c.before.before.before.before.before.args in
-    scanned-more a.s.now a.at c.before.before.if2.false a.room (search rules) c.if3.false
+    scanned_more a.s.now a.at c.before.before.if2.false a.room (search rules) c.if3.false
 
 scan-returns-4 : (t : ℕ) → scan-lts.Need-returns-4 (scan-below t, scan.Post) (scan-at t) scan.Post
 scan-returns-4 t c =
@@ -73,7 +73,7 @@ scan-returns-6 t c =
     let n = c.before.before.value.given.0.0 in
     let next = c.before.before.value.given.0.1.0 in
     let found = sym c.before.before.before.before.scan.ensures ∙ c.before.before.value.given.1 in
-    let small = eight-groups (a.room - 1) n (search rules) (scanned-small a.s.now (a.at + 1) (a.room - 1) n next (sym found)) in
+    let small = eight_groups (a.room - 1) n (search rules) (scanned_small a.s.now (a.at + 1) (a.room - 1) n next (sym found)) in
     sym (behind t c.before.before.before.before.before ∙ ap (extended (b % 128)) found ∙ simp (ne_eqb n 0 c.if4.false) (ap (λ (m : ℕ). Whole m next) (sym (joined n b small))))
 
 pub +scan-spec : {M : Type 1} → statement M

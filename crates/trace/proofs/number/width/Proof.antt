@@ -5,7 +5,7 @@ use mathlib.Core.Path.{◌≡◌, ap}
 use native.Mathlib.Omega.{arith}
 use Prim.Native.Nat.{◌+◌}
 use Rattle.trace.specs.Form.{form}
-use Rattle.trace.specs.SpellingLaws.{few, form-one, form-length, form-spells}
+use Rattle.trace.specs.SpellingLaws.{few, form_one, form_length, form_spells}
 use Rattle.trace.proofs.number.width.Statement.{statement}
 use Rattle.trace.proofs.number.width.Tie as tie
 
@@ -18,7 +18,7 @@ decreases-loop value n₀ left₀ n left = left
 add-n : tie.Need-overflow-add-n invariant-loop decreases-loop
 add-n c =
     let v = c.before.before.args.value in
-    omega (arith, form-length c.before.loop.left c.loop-test.true, few (form-spells 9 v (omega arith)))
+    omega (arith, form_length c.before.loop.left c.loop-test.true, few (form_spells 9 v (omega arith)))
 
 pub width_spec : {M : Type 1} → statement M
 width_spec =
@@ -29,5 +29,5 @@ width_spec =
     (λ c. omega arith)
     add-n
     (λ c. omega arith)
-    (λ c. omega (arith, form-length c.before.loop.left c.loop-test.true))
-    (λ c. omega (arith, ap length (form-one c.before.loop.left c.loop-test.false))))
+    (λ c. omega (arith, form_length c.before.loop.left c.loop-test.true))
+    (λ c. omega (arith, ap length (form_one c.before.loop.left c.loop-test.false))))

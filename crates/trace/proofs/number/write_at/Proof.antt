@@ -7,24 +7,24 @@ use lib.ListN.{length}
 use mathlib.Core.Path.{◌≡◌, ap, ◌∙◌}
 use native.Mathlib.Omega.{arith}
 use Prim.Native.Nat.{◌+◌, ◌-◌, ◌≤◌}
-use Rattle.trace.specs.Answers.{writtenTold, placed}
+use Rattle.trace.specs.Answers.{written_told, placed}
 use Rattle.trace.specs.Form.{form}
 use Rattle.trace.specs.Number.{writing}
-use Rattle.trace.specs.WriteLaws.{at-refusal, at-placing}
+use Rattle.trace.specs.WriteLaws.{at_refusal, at_placing}
 use Rattle.trace.proofs.number.write_at.Statement.{statement}
 use Rattle.trace.proofs.number.write_at.Tie as tie
 
 returns-2 : tie.Need-returns-2
 unfolding writing
 returns-2 c =
-    at-refusal _ _ _ 9 (ap writtenTold c.unwritten2.ensures) (simp (le-ltb _ _ c.before.before.if1.false, lt-ltb _ _ c.before.if2.true))
+    at_refusal _ _ _ 9 (ap written_told c.unwritten2.ensures) (simp (le-ltb _ _ c.before.before.if1.false, lt-ltb _ _ c.before.if2.true))
 
 returns-3 : tie.Need-returns-3
 unfolding writing
 returns-3 c =
     let short = simp c.before.before.width.ensures at c.before.if3.true in
     let test = c.before.before.before in
-    at-refusal _ _ _ 10 (ap writtenTold c.unwritten3.ensures)
+    at_refusal _ _ _ 10 (ap written_told c.unwritten3.ensures)
     (simp (le-ltb _ _ test.before.if1.false, le-ltb _ _ test.if2.false, lt-ltb _ _ short))
 
 returns-4 : tie.Need-returns-4
@@ -38,7 +38,7 @@ returns-4 c =
     let test = e.before.before in
     let told : placed put.result ≡ writing a.s.now a.at a.value =
     simp (put.ensures.0, le-ltb _ _ test.before.if1.false, le-ltb _ _ test.if2.false, le-ltb _ _ fit) in
-    (told, put.ensures.1 ∙ sets-eq (form a.value) a.s.now a.at room ∙ at-placing a.s.now a.at a.value put.result told)
+    (told, put.ensures.1 ∙ sets-eq (form a.value) a.s.now a.at room ∙ at_placing a.s.now a.at a.value put.result told)
 
 pub write-at-spec : {M : Type 1} → statement M
 unfolding writing
@@ -46,7 +46,7 @@ write-at-spec =
     tie.close
     (tie.spec
     (λ c κs. search rules)
-    (λ c. at-refusal _ _ _ 8 (ap writtenTold c.unwritten.ensures) (simp (lt-ltb _ _ c.before.if1.true)))
+    (λ c. at_refusal _ _ _ 8 (ap written_told c.unwritten.ensures) (simp (lt-ltb _ _ c.before.if1.true)))
     (λ c κs. search rules)
     returns-2
     (λ c. search rules)

@@ -49,7 +49,7 @@ use denote.Triple.Entry.{Vals, on_entry}
 use denote.Triple.Spec.{Meets, triple_of}
 use denote.Triple.Table.{entered, cited}
 use denote.Triple.Walked.{says, Stays, stay_ref, walk_of, Goes-ref, Walks, ends_at, walked, walk_Meets}
-use Rattle.trace.specs.Answers.{Told, readTold}
+use Rattle.trace.specs.Answers.{Told, read_told}
 use Rattle.trace.specs.Number.{reading}
 use Rattle.trace.specs.declared.answer.Read.{Read}
 use Rattle.trace.specs.declared.reader.Reader.{Reader}
@@ -154,8 +154,8 @@ module _ {M : Type 1} {𝓤 : Ura M} (𝓛 : Logic 𝓤) (at_mem : Memory → SP
       fjoin ! $
       move ! (2 ∷ 0 ∷ []) $ use2 𝓛 (raw ((ReadAt 𝓛 at_mem run).pre to_read)) asked $ frame ! $ done !)
 
-  read-said : (t : Read) → ent 𝓤 (ensured 𝓛 read.ended (read.clauses 𝓛 at_mem run) (κ', tt) (h.src, (h.at, tt)) tt t) (fact 𝓤 (readTold t ≡ found))
-  read-said t = ex_e 𝓤 _ (λ ws. snd∗ 𝓤 (sem 𝓛 (lasts read.ended (κ', tt) (h.src, (h.at, tt)) ws)) (fact 𝓤 (readTold t ≡ found)))
+  read-said : (t : Read) → ent 𝓤 (ensured 𝓛 read.ended (read.clauses 𝓛 at_mem run) (κ', tt) (h.src, (h.at, tt)) tt t) (fact 𝓤 (read_told t ≡ found))
+  read-said t = ex_e 𝓤 _ (λ ws. snd∗ 𝓤 (sem 𝓛 (lasts read.ended (κ', tt) (h.src, (h.at, tt)) ws)) (fact 𝓤 (read_told t ≡ found)))
 
   -- the call of `place_of`, at the answer t with the machine value u
   abbrev to-place : Read → Val → (PlaceOf 𝓛 at_mem run).Ghost
@@ -164,8 +164,8 @@ module _ {M : Type 1} {𝓤 : Ura M} (𝓛 : Logic 𝓤) (at_mem : Memory → SP
   goes-place : (t : Read) (u : Val) → ent 𝓤 (sem 𝓛 ((S.the_row).own_val t (u ∷ []))) ((PlaceOf 𝓛 at_mem run).pre (to-place t u))
   goes-place t u = qed 𝓛 (‵ ((S.the_row).own_val t (u ∷ [])) ∷ []) ∵ nothing ! $ move ! (1 ∷ 0 ∷ []) $ fjoin ! $ nothing ! $ join ! $ frame ! $ done !
 
-  place-said : (t : Read) (n : ℕ) → ent 𝓤 (ensured 𝓛 place.ended (place.clauses 𝓛 at_mem run) tt (t, tt) tt n) (fact 𝓤 (n ≡ (readTold t).place))
-  place-said t n = ex_e 𝓤 _ (λ ws. snd∗ 𝓤 (sem 𝓛 (lasts place.ended tt (t, tt) ws)) (fact 𝓤 (n ≡ (readTold t).place)))
+  place-said : (t : Read) (n : ℕ) → ent 𝓤 (ensured 𝓛 place.ended (place.clauses 𝓛 at_mem run) tt (t, tt) tt n) (fact 𝓤 (n ≡ (read_told t).place))
+  place-said t n = ex_e 𝓤 _ (λ ws. snd∗ 𝓤 (sem 𝓛 (lasts place.ended tt (t, tt) ws)) (fact 𝓤 (n ≡ (read_told t).place)))
 
   -- what src owns is kept, and at's facts are made anew
   again : (n : ℕ) → n < 2 ^ 64 → ent 𝓤 (sem 𝓛 Own) (sem 𝓛 ((B κ').own (put n) (T'.lowered (put n) ∷ [])))
@@ -179,7 +179,7 @@ module _ {M : Type 1} {𝓤 : Ura M} (𝓛 : Logic 𝓤) (at_mem : Memory → SP
   answer : (t : Read) (u : Val) → Is S.the_row t (u ∷ []) → Holds (has_ty S'.mir u) × WT u
   answer t u is = ((EL.lawful S.the_type S'.the_laws 𝓛 tt).typed t _ is).0
 
-  exits : (t : Read) (u : Val) (n : ℕ) → readTold t ≡ found → n ≡ (readTold t).place
+  exits : (t : Read) (u : Val) (n : ℕ) → read_told t ≡ found → n ≡ (read_told t).place
       → ent 𝓤 (⋆ 𝓛 (‵ (fobs γ ((B κ').coded.code (put n))) ∷ ‵ (fbor κ (Body (mem (B κ')) b o γ)) ∷ ‵ (flft κ q) ∷ (‵ (flft κ' q') ⊛ ‵ ftrue) ∷ ‵ ((S.the_row).own_val t (u ∷ [])) ∷ [])) (Post u)
   exits t u n e p =
       qed 𝓛 (‵ (fobs γ ((B κ').coded.code (put n))) ∷ ‵ (fbor κ (Body (mem (B κ')) b o γ)) ∷ ‵ (flft κ q) ∷ (‵ (flft κ' q') ⊛ ‵ ftrue) ∷ ‵ ((S.the_row).own_val t (u ∷ [])) ∷ []) ∵
@@ -205,13 +205,13 @@ module _ {M : Type 1} {𝓤 : Ura M} (𝓛 : Logic 𝓤) (at_mem : Memory → SP
         calls_at ! fm (ReadAt 𝓛 at_mem run) known_read to_read (and_then ! (load ! (from ! (stop !)) (look ! 13 refl)) (and_then ! (load ! (from ! (stop !)) (look ! 11 refl)) (no_more !))) (λ u.
         use1 𝓛 (later (some (λ (t : Read). ((‵ (flft κ' q') ⊛ ‵ ftrue) ⊛ ‵ ((S.the_row).own_val t (u ∷ [])))
         ⊛ raw (ensured 𝓛 read.ended (read.clauses 𝓛 at_mem run) (κ', tt) (h.src, (h.at, tt)) tt t)))) (id⊢ 𝓤 _) $ await ! tt $ pick ! (λ t.
-        split ! $ move ! (1 ∷ []) $ use1 𝓛 (raw (fact 𝓤 (readTold t ≡ found))) (read-said t) $ heard ! (readTold t ≡ found) (λ e. split ! $ move ! (1 ∷ []) $
+        split ! $ move ! (1 ∷ []) $ use1 𝓛 (raw (fact 𝓤 (read_told t ≡ found))) (read-said t) $ heard ! (read_told t ≡ found) (λ e. split ! $ move ! (1 ∷ []) $
         -- [the answer; the inner token; what a Reader owns; the cell; the open borrow; obs; auth; …; _5; …; _4; …; _3; …; _2; …; _1; …; room for _0; …]
         peeks ! S.the_row (Is S.the_row) (shows 𝓛 S.the_row) t (u ∷ []) (λ is.
         land ! (from ! (stop !)) (init ! 10 refl (answer t u is)) $ use1 𝓛 (raw ((PlaceOf 𝓛 at_mem run).pre (to-place t u))) (goes-place t u) $
         calls_at ! fm (PlaceOf 𝓛 at_mem run) known-place (to-place t u) (and_then ! (load ! (from ! (stop !)) (look ! 10 refl)) (no_more !)) (λ w.
         use1 𝓛 (later (some (λ (n : ℕ). (‵ ftrue ⊛ ‵ (usize.own_val n (w ∷ []))) ⊛ raw (ensured 𝓛 place.ended (place.clauses 𝓛 at_mem run) tt (t, tt) tt n)))) (id⊢ 𝓤 _) $ await ! tt $ pick ! (λ n.
-        split ! $ move ! (1 ∷ []) $ use1 𝓛 (raw (fact 𝓤 (n ≡ (readTold t).place))) (place-said t n) $ heard ! (n ≡ (readTold t).place) (λ p. split ! $ drop ! $
+        split ! $ move ! (1 ∷ []) $ use1 𝓛 (raw (fact 𝓤 (n ≡ (read_told t).place))) (place-said t n) $ heard ! (n ≡ (read_told t).place) (λ p. split ! $ drop ! $
         peeks ! usize (Is usize) (shows 𝓛 usize) n (w ∷ []) (λ fit.
         land ! (from ! (stop !)) (init ! 8 refl ((uint_Lawful 𝓛 w64).typed n _ fit).0) $
         rewrite ! 8 (λ (z : Val). ‵ (fat full_share (ty_int w64) l₅ 0 z)) (ap only fit.0) refl $

@@ -54,7 +54,7 @@ use denote.Exit.{yes}
 use borrow.Within.Token.{Rest, within_token, within_end}
 use Rattle.trace.specs.Number.{reading}
 use Rattle.trace.specs.Promises.{ReadPromise, NextPromise}
-use Rattle.trace.specs.Reader.{readerAt}
+use Rattle.trace.specs.Reader.{reader_at}
 use Rattle.trace.specs.declared.answer.Read.{Read}
 use Rattle.trace.specs.declared.reader.Reader.{Reader}
 use Rattle.trace.specs.contracts.reader.Reader as T
@@ -122,8 +122,8 @@ module _ {M : Type 1} {𝓤 : Ura M} (𝓛 : Logic 𝓤) (at_mem : Memory → SP
       move ! (0 ∷ 2 ∷ []) $ fjoin ! $ move ! (2 ∷ 0 ∷ []) $
       use2 𝓛 (raw ((Open 𝓛 at_mem run).pre to-open)) (qed 𝓛 ((‵ (flft κ q) ⊛ ‵ ftrue) ∷ ‵ (owns (ShrSlice (named 0) κ u8 ∷ usize ∷ []) (s, (n, tt)) at) ∷ []) ∵ join ! $ frame ! $ done !) $ frame ! $ done !
 
-  open_said : (r : Reader) → ent 𝓤 (ensured 𝓛 opening.ended (opening.clauses 𝓛 at_mem run) (κ, tt) (s, (n, tt)) tt r) (fact 𝓤 (r ≡ readerAt s n))
-  open_said r = ex_e 𝓤 _ (λ ws. snd∗ 𝓤 (sem 𝓛 (lasts opening.ended (κ, tt) (s, (n, tt)) ws)) (fact 𝓤 (r ≡ readerAt s n)))
+  open_said : (r : Reader) → ent 𝓤 (ensured 𝓛 opening.ended (opening.clauses 𝓛 at_mem run) (κ, tt) (s, (n, tt)) tt r) (fact 𝓤 (r ≡ reader_at s n))
+  open_said r = ex_e 𝓤 _ (λ ws. snd∗ 𝓤 (sem 𝓛 (lasts opening.ended (κ, tt) (s, (n, tt)) ws)) (fact 𝓤 (r ≡ reader_at s n)))
 
   typed : (r : Reader) (u : Val) → Is R r (u ∷ []) → Holds (has_ty (T'.mir erased) u) × WT u
   typed r u is = ((LL.lawful (T.the_type αᵉ) (T'.the_laws αᵉ) 𝓛).typed r _ is).0
@@ -183,7 +183,7 @@ module _ {M : Type 1} {𝓤 : Ura M} (𝓛 : Logic 𝓤) (at_mem : Memory → SP
         calls_at ! fm (Open 𝓛 at_mem run) known-open to-open (and_then ! (load ! (from ! (stop !)) (look ! 10 refl)) (and_then ! (load ! (from ! (stop !)) (look ! 8 refl)) (no_more !))) (λ u.
         use1 𝓛 (later (some (λ (r : Reader). ((‵ (flft κ q) ⊛ ‵ ftrue) ⊛ ‵ (R.own r (u ∷ [])))
         ⊛ raw (ensured 𝓛 opening.ended (opening.clauses 𝓛 at_mem run) (κ, tt) (s, (n, tt)) tt r)))) (id⊢ 𝓤 _) $ await ! tt $ pick ! (λ r.
-        split ! $ move ! (1 ∷ []) $ use1 𝓛 (raw (fact 𝓤 (r ≡ readerAt s n))) (open_said r) $ heard ! (r ≡ readerAt s n) (λ e. split ! $ move ! (1 ∷ []) $
+        split ! $ move ! (1 ∷ []) $ use1 𝓛 (raw (fact 𝓤 (r ≡ reader_at s n))) (open_said r) $ heard ! (r ≡ reader_at s n) (λ e. split ! $ move ! (1 ∷ []) $
         -- [what the struct owns; the token; what s owns; room for _5; …; _4; …; _3; …; _2; …; _1; …; room for _0; …]
         peeks ! R (Is R) (shows 𝓛 R) r (u ∷ []) (λ is.
         land ! (from ! (stop !)) (init ! 5 refl (typed r u is)) $

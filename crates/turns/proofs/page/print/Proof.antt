@@ -4,7 +4,7 @@ use Prim.Native.Nat.{◌-◌}
 use lib.ListN.{length, drop}
 use borrow.Author.Rules.{rules}
 use Rattle.turns.specs.Page.{page_of, printed}
-use Rattle.turns.specs.PrintLaws.{print-full, print-on, print-over}
+use Rattle.turns.specs.PrintLaws.{print_full, print_on, print_over}
 use Rattle.turns.proofs.page.print.Statement.{statement}
 use Rattle.turns.proofs.page.print.Tie as tie
 
@@ -23,12 +23,12 @@ print-spec =
     decreases-loop
     (λ c. search rules)
     (λ c. search rules)
-    (λ c. search (print-full, sym, ◌∙◌))
+    (λ c. search (print_full, sym, ◌∙◌))
     (λ c. search rules)
     (λ c. search rules)
     (λ c. search rules)
     (λ c. search rules)
     (λ c. search rules)
-    (λ c. search (rules, print-on, ◌∙◌))
+    (λ c. search (rules, print_on, ◌∙◌))
     (λ c. search rules)
-    (λ c. search (print-over, ◌∙◌)))
+    (λ c. search (print_over, ◌∙◌)))

@@ -1,5 +1,5 @@
 -- What the line's call put into the buffer is printed.
-use Rattle.turns.specs.PrintLaws.{print-line}
+use Rattle.turns.specs.PrintLaws.{print_line}
 use borrow.Author.Rules.{rules}
 use Rattle.turns.proofs.page.print_part.Statement.{statement}
 use Rattle.turns.proofs.page.print_part.Tie as tie
@@ -13,4 +13,4 @@ print-part-spec =
     (λ c. search rules)
     (λ c κs. search rules)
     (λ c. search rules)
-    (λ c. search print-line))
+    (λ c. search print_line))

@@ -1,5 +1,5 @@
 -- A refused event leaves all as it was; an accepted one leaves what the bench, the array and the page take of its answer.
-use Rattle.turns.specs.EventLaws.{event-refused, event-closes, event-goes-on}
+use Rattle.turns.specs.EventLaws.{event_refused, event_closes, event_goes_on}
 use borrow.Author.Rules.{rules}
 use Rattle.turns.proofs.turn.take_event.Statement.{statement}
 use Rattle.turns.proofs.turn.take_event.Tie as tie
@@ -11,12 +11,12 @@ take-event-spec =
     (λ c. search rules)
     (λ c κs. search rules)
     (λ c. search rules)
-    (λ c. search event-refused)
+    (λ c. search event_refused)
     (λ c κs. search rules)
     (λ c κs. search rules)
     (λ c κs. search rules)
     (λ c. search rules)
     (λ c. search rules)
-    (λ c. search event-closes)
+    (λ c. search event_closes)
     (λ c. search rules)
-    (λ c. search event-goes-on))
+    (λ c. search event_goes_on))

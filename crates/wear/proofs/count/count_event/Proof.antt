@@ -1,5 +1,5 @@
 -- A refusal is the answer; else the event's answer is, and its state's stage says which byte was touched last.
-use Rattle.wear.specs.CountLaws.{count-rows, stops, goes}
+use Rattle.wear.specs.CountLaws.{count_rows, stops, goes}
 use borrow.Author.Rules.{rules}
 use Rattle.wear.proofs.count.count_event.Statement.{statement}
 use Rattle.wear.proofs.count.count_event.Tie as tie
@@ -13,7 +13,7 @@ add-requires : tie.Need-add-requires
 add-requires c κs =
     let row = c.before.before.before.before.before.before.before.before in
     let asked = row.before.before in
-    count-rows _ _ _ _ _ asked.before.count-refusal.ensures asked.if1.false row.figure-of.ensures
+    count_rows _ _ _ _ _ asked.before.count-refusal.ensures asked.if1.false row.figure-of.ensures
 
 returns-2 : tie.Need-returns-2
 returns-2 c =

@@ -1,18 +1,18 @@
 -- The tests come in the order of the refusals; the row is the part's.
 use mathlib.Core.Path.{refl}
-use Rattle.chip.specs.EventLaws.{lend-misfits, lend-unnumbered, lend-fine}
-use Rattle.wear.specs.CountLaws.{count-unsound, count-rowless, count-lends, count-misfits, count-fine}
+use Rattle.chip.specs.EventLaws.{lend_misfits, lend_unnumbered, lend_fine}
+use Rattle.wear.specs.CountLaws.{count_unsound, count_rowless, count_lends, count_misfits, count_fine}
 use borrow.Author.Rules.{rules}
 use Rattle.wear.proofs.count.count_refusal.Statement.{statement}
 use Rattle.wear.proofs.count.count_refusal.Tie as tie
 
 returns : tie.Need-returns
-returns c = count-unsound _ _ _ _ _ c.before.before.figure-of.ensures c.before.sound-by.ensures c.if1.true
+returns c = count_unsound _ _ _ _ _ c.before.before.figure-of.ensures c.before.sound-by.ensures c.if1.true
 
 returns-2 : tie.Need-returns-2
 returns-2 c =
     let good = c.before.before in
-    count-rowless _ _ _ _ _ good.before.before.figure-of.ensures good.before.sound-by.ensures good.if1.false c.if2.true
+    count_rowless _ _ _ _ _ good.before.before.figure-of.ensures good.before.sound-by.ensures good.if1.false c.if2.true
 
 returns-3 : tie.Need-returns-3
 returns-3 c =
@@ -20,7 +20,7 @@ returns-3 c =
     let good = rows.before.before in
     let row = good.before.before.figure-of.ensures in
     let told = good.before.sound-by.ensures in
-    count-lends _ _ _ _ _ row told good.if1.false rows.if2.false (lend-misfits _ _ _ _ row told good.if1.false c.if3.true) refl
+    count_lends _ _ _ _ _ row told good.if1.false rows.if2.false (lend_misfits _ _ _ _ row told good.if1.false c.if3.true) refl
 
 returns-4 : tie.Need-returns-4
 returns-4 c =
@@ -29,8 +29,8 @@ returns-4 c =
     let good = rows.before.before in
     let row = good.before.before.figure-of.ensures in
     let told = good.before.sound-by.ensures in
-    count-lends _ _ _ _ _ row told good.if1.false rows.if2.false
-    (lend-unnumbered _ _ _ _ row told c.before.takes-serial.ensures good.if1.false fit.if3.false c.if4.true) refl
+    count_lends _ _ _ _ _ row told good.if1.false rows.if2.false
+    (lend_unnumbered _ _ _ _ row told c.before.takes-serial.ensures good.if1.false fit.if3.false c.if4.true) refl
 
 returns-5 : tie.Need-returns-5
 returns-5 c =
@@ -40,8 +40,8 @@ returns-5 c =
     let good = rows.before.before in
     let row = good.before.before.figure-of.ensures in
     let told = good.before.sound-by.ensures in
-    count-misfits _ _ _ _ _ row told good.if1.false rows.if2.false
-    (lend-fine _ _ _ _ row told own.before.takes-serial.ensures good.if1.false fit.if3.false own.if4.false) c.if5.true
+    count_misfits _ _ _ _ _ row told good.if1.false rows.if2.false
+    (lend_fine _ _ _ _ row told own.before.takes-serial.ensures good.if1.false fit.if3.false own.if4.false) c.if5.true
 
 returns-6 : tie.Need-returns-6
 returns-6 c =
@@ -51,8 +51,8 @@ returns-6 c =
     let good = rows.before.before in
     let row = good.before.before.figure-of.ensures in
     let told = good.before.sound-by.ensures in
-    count-fine _ _ _ _ _ row told good.if1.false rows.if2.false
-    (lend-fine _ _ _ _ row told own.before.takes-serial.ensures good.if1.false fit.if3.false own.if4.false) c.if5.false
+    count_fine _ _ _ _ _ row told good.if1.false rows.if2.false
+    (lend_fine _ _ _ _ row told own.before.takes-serial.ensures good.if1.false fit.if3.false own.if4.false) c.if5.false
 
 pub count-refusal-spec : {M : Type 1} → statement M
 count-refusal-spec =

@@ -1,13 +1,13 @@
 -- A line where the bits differ.
 use borrow.Author.Tests.{eq-eqb, ne_eqb}
-use Rattle.words.specs.Lines.{noteText}
+use Rattle.words.specs.Lines.{note_text}
 use Rattle.words.proofs.Pages.{none}
 use borrow.Author.Rules.{rules}
 use Rattle.words.proofs.changes.tell_kept.Statement.{statement}
 use Rattle.words.proofs.changes.tell_kept.Tie as tie
 
 returns-2 : tie.Need-returns-2
-unfolding noteText
+unfolding note_text
 returns-2 c =
     let print-note = c.before.before in
     let if1 = print-note.before.before in

@@ -1,12 +1,12 @@
 -- A line where the levels differ.
-use Rattle.words.specs.Lines.{noteText}
+use Rattle.words.specs.Lines.{note_text}
 use Rattle.words.proofs.Pages.{none}
 use borrow.Author.Rules.{rules}
 use Rattle.words.proofs.changes.tell_latch.Statement.{statement}
 use Rattle.words.proofs.changes.tell_latch.Tie as tie
 
 returns : tie.Need-returns
-unfolding noteText
+unfolding note_text
 returns c =
     let print-note = c.before.before in
     let if1 = print-note.before.before in

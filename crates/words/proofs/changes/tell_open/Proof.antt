@@ -1,5 +1,5 @@
 -- The line is printed where the test holds.
-use Rattle.words.proofs.Pages.{where-so, where-not}
+use Rattle.words.proofs.Pages.{where_so, where_not}
 use borrow.Author.Rules.{rules}
 use Rattle.words.proofs.changes.tell_open.Statement.{statement}
 use Rattle.words.proofs.changes.tell_open.Tie as tie
@@ -9,7 +9,7 @@ returns c =
     let print-open = c.before.before in
     let if1 = print-open.before.before in
     let opens = if1.before in
-    where-so _ _ opens.opens.ensures if1.if1.true print-open.print-open.ensures
+    where_so _ _ opens.opens.ensures if1.if1.true print-open.print-open.ensures
 
 pub tell-open-spec : {M : Type 1} → statement M
 tell-open-spec =
@@ -19,4 +19,4 @@ tell-open-spec =
     (λ c κs. search rules)
     (λ c. search rules)
     returns
-    (λ c. let opens = c.before in where-not _ _ _ _ opens.opens.ensures c.if1.false))
+    (λ c. let opens = c.before in where_not _ _ _ _ opens.opens.ensures c.if1.false))

@@ -1,12 +1,12 @@
 -- Nothing but fresh bytes, or the rows.
-use Rattle.words.specs.Dump.{arrayText}
+use Rattle.words.specs.Dump.{array_text}
 use Rattle.words.proofs.Pages.{◌then◌}
 use borrow.Author.Rules.{rules}
 use Rattle.words.proofs.dump.print_array.Statement.{statement}
 use Rattle.words.proofs.dump.print_array.Tie as tie
 
 returns : tie.Need-returns
-unfolding arrayText
+unfolding array_text
 returns c =
     let print = c.before.before in
     let if1 = print.before.before.before in
@@ -15,7 +15,7 @@ returns c =
     print.print.ensures
 
 returns-2 : tie.Need-returns-2
-unfolding arrayText
+unfolding array_text
 returns-2 c =
     let print-rows = c.before.before in
     let print2 = print-rows.before.before.before.before in

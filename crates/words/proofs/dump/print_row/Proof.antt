@@ -1,19 +1,19 @@
 -- A fresh row is nothing; else its pieces.
-use Rattle.words.specs.Dump.{rowText}
+use Rattle.words.specs.Dump.{row_text}
 use Rattle.words.proofs.Pages.{none, ◌then◌}
 use borrow.Author.Rules.{rules}
 use Rattle.words.proofs.dump.print_row.Statement.{statement}
 use Rattle.words.proofs.dump.print_row.Tie as tie
 
 returns : tie.Need-returns
-unfolding rowText
+unfolding row_text
 returns c =
     let all-fresh = c.before in
     rw (← all-fresh.all-fresh.ensures, c.if1.true)
     (none _)
 
 returns-2 : tie.Need-returns-2
-unfolding rowText
+unfolding row_text
 returns-2 c =
     let print2 = c.before.before in
     let print-spaced = print2.before.before.before.before.before in

@@ -5,16 +5,16 @@ use native.Mathlib.Nat.{sub-zero}
 use native.Mathlib.Omega.{arith}
 use lib.ListN.{length}
 use Rattle.turns.specs.Page.{page_of, printed}
-use Rattle.words.specs.Dump.{rowsText}
-use Rattle.words.proofs.Pages.{left-on, left_over}
-use Rattle.words.proofs.Rows.{rows_on, rows-over}
+use Rattle.words.specs.Dump.{rows_text}
+use Rattle.words.proofs.Pages.{left_on, left_over}
+use Rattle.words.proofs.Rows.{rows_on, rows_over}
 use borrow.Author.Rules.{rules}
 use Rattle.words.proofs.dump.print_rows.Statement.{statement}
 use Rattle.words.proofs.dump.print_rows.Tie as tie
 
 abbrev invariant-loop : tie.invariant-loop
 invariant-loop out₀ at array rows next₀ i₀ out next i =
-    (length out ≡ length out₀) × (printed (page_of out next) (rowsText array (rows - i) i) ≡ printed (page_of out₀ at) (rowsText array rows 0))
+    (length out ≡ length out₀) × (printed (page_of out next) (rows_text array (rows - i) i) ≡ printed (page_of out₀ at) (rows_text array rows 0))
 
 abbrev decreases-loop : tie.decreases-loop
 decreases-loop out₀ at array rows next₀ i₀ out next i = rows - i
@@ -24,7 +24,7 @@ loop-again c =
     let print-row = c.before.before in
     let loop-test = print-row.before.before.before in (
       search rules,
-      left-on _ _ _ _ _ (rows_on _ _ _ loop-test.loop-test.true) print-row.print-row.ensures ∙ loop-test.before.loop.invariant.1,
+      left_on _ _ _ _ _ (rows_on _ _ _ loop-test.loop-test.true) print-row.print-row.ensures ∙ loop-test.before.loop.invariant.1,
     )
 
 pub print-rows-spec : {M : Type 1} → statement M
@@ -44,4 +44,4 @@ print-rows-spec =
     (λ c. search rules)
     loop-again
     (λ c. search rules)
-    (λ c. record { page = left_over _ _ _ (rows-over _ _ _ c.loop-test.false) c.before.loop.invariant.1 }))
+    (λ c. record { page = left_over _ _ _ (rows_over _ _ _ c.loop-test.false) c.before.loop.invariant.1 }))

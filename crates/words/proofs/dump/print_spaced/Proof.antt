@@ -4,8 +4,8 @@ use Prim.Native.Nat.{◌-◌}
 use lib.ListN.{length, drop}
 use Rattle.turns.specs.Page.{page_of, printed}
 use Rattle.words.specs.Dump.{spaced}
-use Rattle.words.proofs.Pages.{left-on, left_over}
-use Rattle.words.proofs.Rows.{spaced-on, spaced-over}
+use Rattle.words.proofs.Pages.{left_on, left_over}
+use Rattle.words.proofs.Rows.{spaced_on, spaced_over}
 use borrow.Author.Rules.{rules}
 use Rattle.words.proofs.dump.print_spaced.Statement.{statement}
 use Rattle.words.proofs.dump.print_spaced.Tie as tie
@@ -19,10 +19,10 @@ decreases-loop out₀ at bytes next₀ i₀ out next i = length bytes - i
 
 loop-again : tie.Need-loop-preserved invariant-loop decreases-loop
 loop-again c =
-    let print-one = c.before.before in
-    let loop-test = print-one.before.before.before in (
+    let print_one = c.before.before in
+    let loop-test = print_one.before.before.before in (
       search rules,
-      left-on _ _ _ _ _ (spaced-on _ _ loop-test.loop-test.true) print-one.print-one.ensures ∙ loop-test.before.loop.invariant.1,
+      left_on _ _ _ _ _ (spaced_on _ _ loop-test.loop-test.true) print_one.print_one.ensures ∙ loop-test.before.loop.invariant.1,
     )
 
 pub print-spaced-spec : {M : Type 1} → statement M
@@ -38,4 +38,4 @@ print-spaced-spec =
     (λ c. search rules)
     loop-again
     (λ c. search rules)
-    (λ c. record { page = left_over _ _ _ (spaced-over _ _ c.loop-test.false) c.before.loop.invariant.1 }))
+    (λ c. record { page = left_over _ _ _ (spaced_over _ _ c.loop-test.false) c.before.loop.invariant.1 }))

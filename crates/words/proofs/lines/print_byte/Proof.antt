@@ -1,12 +1,12 @@
 -- Each piece is printed behind the one before.
-use Rattle.words.specs.Lines.{byteLine}
+use Rattle.words.specs.Lines.{byte_line}
 use Rattle.words.proofs.Pages.{◌then◌}
 use borrow.Author.Rules.{rules}
 use Rattle.words.proofs.lines.print_byte.Statement.{statement}
 use Rattle.words.proofs.lines.print_byte.Tie as tie
 
 returns : tie.Need-returns
-unfolding byteLine
+unfolding byte_line
 returns c =
     let print = c.before.before in
     let print-hex = print.before.before.before.before.before in

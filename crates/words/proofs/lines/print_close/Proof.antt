@@ -1,12 +1,12 @@
 -- Each piece is printed behind the one before.
-use Rattle.words.specs.Lines.{closeLine}
+use Rattle.words.specs.Lines.{close_line}
 use Rattle.words.proofs.Pages.{◌then◌}
 use borrow.Author.Rules.{rules}
 use Rattle.words.proofs.lines.print_close.Statement.{statement}
 use Rattle.words.proofs.lines.print_close.Tie as tie
 
 returns : tie.Need-returns
-unfolding closeLine
+unfolding close_line
 returns c =
     let print2 = c.before.before in
     let print-decimal2 = print2.before.before.before.before.before in

@@ -1,12 +1,12 @@
 -- Each piece is printed behind the one before.
-use Rattle.words.specs.Lines.{codeLine}
+use Rattle.words.specs.Lines.{code_line}
 use Rattle.words.proofs.Pages.{◌then◌}
 use borrow.Author.Rules.{rules}
 use Rattle.words.proofs.lines.print_code.Statement.{statement}
 use Rattle.words.proofs.lines.print_code.Tie as tie
 
 returns : tie.Need-returns
-unfolding codeLine
+unfolding code_line
 returns c =
     let print2 = c.before.before in
     let print-command = print2.before.before.before.before.before in

@@ -1,12 +1,12 @@
 -- Each piece is printed behind the one before.
-use Rattle.words.specs.Lines.{endLine}
+use Rattle.words.specs.Lines.{end_line}
 use Rattle.words.proofs.Pages.{◌then◌}
 use borrow.Author.Rules.{rules}
 use Rattle.words.proofs.lines.print_end.Statement.{statement}
 use Rattle.words.proofs.lines.print_end.Tie as tie
 
 returns : tie.Need-returns
-unfolding endLine
+unfolding end_line
 returns c =
     let print2 = c.before.before in
     let if1 = print2.before.before.before in
@@ -18,7 +18,7 @@ returns c =
     then print2.print2.ensures)
 
 returns-2 : tie.Need-returns-2
-unfolding endLine
+unfolding end_line
 returns-2 c =
     let print3 = c.before.before in
     let if1 = print3.before.before.before in

@@ -1,12 +1,12 @@
 -- The word, then the number behind it.
-use Rattle.words.specs.Lines.{grownText}
+use Rattle.words.specs.Lines.{grown_text}
 use Rattle.words.proofs.Pages.{◌then◌}
 use borrow.Author.Rules.{rules}
 use Rattle.words.proofs.lines.print_grown.Statement.{statement}
 use Rattle.words.proofs.lines.print_grown.Tie as tie
 
 returns : tie.Need-returns
-unfolding grownText
+unfolding grown_text
 returns c =
     let print-decimal = c.before.before in
     let print = print-decimal.before.before.before.before in

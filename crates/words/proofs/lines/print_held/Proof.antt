@@ -1,12 +1,12 @@
 -- Each piece is printed behind the one before.
-use Rattle.words.specs.Lines.{heldLine}
+use Rattle.words.specs.Lines.{held_line}
 use Rattle.words.proofs.Pages.{◌then◌}
 use borrow.Author.Rules.{rules}
 use Rattle.words.proofs.lines.print_held.Statement.{statement}
 use Rattle.words.proofs.lines.print_held.Tie as tie
 
 returns : tie.Need-returns
-unfolding heldLine
+unfolding held_line
 returns c =
     let print2 = c.before.before in
     let print-reason = print2.before.before.before.before.before in

@@ -1,12 +1,12 @@
 -- Each piece is printed behind the one before.
-use Rattle.words.specs.Lines.{keptLine}
+use Rattle.words.specs.Lines.{kept_line}
 use Rattle.words.proofs.Pages.{◌then◌}
 use borrow.Author.Rules.{rules}
 use Rattle.words.proofs.lines.print_kept.Statement.{statement}
 use Rattle.words.proofs.lines.print_kept.Tie as tie
 
 returns : tie.Need-returns
-unfolding keptLine
+unfolding kept_line
 returns c =
     let print = c.before.before in
     let print-hex = print.before.before.before.before.before in

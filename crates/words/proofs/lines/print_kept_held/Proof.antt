@@ -1,12 +1,12 @@
 -- Each piece is printed behind the one before.
-use Rattle.words.specs.Lines.{keptHeldLine}
+use Rattle.words.specs.Lines.{kept_held_line}
 use Rattle.words.proofs.Pages.{◌then◌}
 use borrow.Author.Rules.{rules}
 use Rattle.words.proofs.lines.print_kept_held.Statement.{statement}
 use Rattle.words.proofs.lines.print_kept_held.Tie as tie
 
 returns : tie.Need-returns
-unfolding keptHeldLine
+unfolding kept_held_line
 returns c =
     let print = c.before.before in
     let print-reason = print.before.before.before.before.before in

@@ -1,11 +1,11 @@
 -- On or off.
-use Rattle.words.specs.Lines.{latchLine}
+use Rattle.words.specs.Lines.{latch_line}
 use borrow.Author.Rules.{rules}
 use Rattle.words.proofs.lines.print_latch.Statement.{statement}
 use Rattle.words.proofs.lines.print_latch.Tie as tie
 
 returns : tie.Need-returns
-unfolding latchLine
+unfolding latch_line
 returns c =
     let say = c.before.before in
     let if1 = say.before.before.before in
@@ -13,7 +13,7 @@ returns c =
     say.say.ensures
 
 returns-2 : tie.Need-returns-2
-unfolding latchLine
+unfolding latch_line
 returns-2 c =
     let say2 = c.before.before in
     let if1 = say2.before.before.before in

@@ -1,12 +1,12 @@
 -- Each piece is printed behind the one before.
-use Rattle.words.specs.Lines.{leftLine}
+use Rattle.words.specs.Lines.{left_line}
 use Rattle.words.proofs.Pages.{◌then◌}
 use borrow.Author.Rules.{rules}
 use Rattle.words.proofs.lines.print_left.Statement.{statement}
 use Rattle.words.proofs.lines.print_left.Tie as tie
 
 returns : tie.Need-returns
-unfolding leftLine
+unfolding left_line
 returns c =
     let print3 = c.before.before in
     let print-decimal2 = print3.before.before.before.before.before in

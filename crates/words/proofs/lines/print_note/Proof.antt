@@ -1,18 +1,18 @@
 -- A line for each note.
-use Rattle.words.specs.Lines.{noteText}
+use Rattle.words.specs.Lines.{note_text}
 use Rattle.words.proofs.Pages.{none}
 use borrow.Author.Rules.{rules}
 use Rattle.words.proofs.lines.print_note.Statement.{statement}
 use Rattle.words.proofs.lines.print_note.Tie as tie
 
 returns : tie.Need-returns
-unfolding noteText
+unfolding note_text
 returns c =
     rw c.enum_told.given.1
     (none _)
 
 returns-2 : tie.Need-returns-2
-unfolding noteText
+unfolding note_text
 returns-2 c =
     let print-latch = c.before.before in
     let note = print-latch.before.before.before in
@@ -20,7 +20,7 @@ returns-2 c =
     print-latch.print-latch.ensures
 
 returns-3 : tie.Need-returns-3
-unfolding noteText
+unfolding note_text
 returns-3 c =
     let print-stored = c.before.before in
     let note2 = print-stored.before.before.before in
@@ -28,7 +28,7 @@ returns-3 c =
     print-stored.print-stored.ensures
 
 returns-4 : tie.Need-returns-4
-unfolding noteText
+unfolding note_text
 returns-4 c =
     let print-held = c.before.before in
     let note3 = print-held.before.before.before in
@@ -36,7 +36,7 @@ returns-4 c =
     print-held.print-held.ensures
 
 returns-5 : tie.Need-returns-5
-unfolding noteText
+unfolding note_text
 returns-5 c =
     let print-kept = c.before.before in
     let note4 = print-kept.before.before.before in
@@ -44,7 +44,7 @@ returns-5 c =
     print-kept.print-kept.ensures
 
 returns-6 : tie.Need-returns-6
-unfolding noteText
+unfolding note_text
 returns-6 c =
     let print-kept-held = c.before.before in
     let note5 = print-kept-held.before.before.before in
@@ -52,7 +52,7 @@ returns-6 c =
     print-kept-held.print-kept-held.ensures
 
 returns-7 : tie.Need-returns-7
-unfolding noteText
+unfolding note_text
 returns-7 c =
     let say = c.before.before in
     let enum-told2 = say.before.before.before in

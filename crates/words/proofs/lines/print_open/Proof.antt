@@ -1,12 +1,12 @@
 -- Each piece is printed behind the one before.
-use Rattle.words.specs.Lines.{openLine}
+use Rattle.words.specs.Lines.{open_line}
 use Rattle.words.proofs.Pages.{◌then◌}
 use borrow.Author.Rules.{rules}
 use Rattle.words.proofs.lines.print_open.Statement.{statement}
 use Rattle.words.proofs.lines.print_open.Tie as tie
 
 returns : tie.Need-returns
-unfolding openLine
+unfolding open_line
 returns c =
     let print = c.before.before in
     let if1 = print.before.before.before in
@@ -18,7 +18,7 @@ returns c =
     then print.print.ensures)
 
 returns-2 : tie.Need-returns-2
-unfolding openLine
+unfolding open_line
 returns-2 c =
     let print2 = c.before.before in
     let if1 = print2.before.before.before in

@@ -1,12 +1,12 @@
 -- Each piece is printed behind the one before.
-use Rattle.words.specs.Lines.{powerLine}
+use Rattle.words.specs.Lines.{power_line}
 use Rattle.words.proofs.Pages.{◌then◌}
 use borrow.Author.Rules.{rules}
 use Rattle.words.proofs.lines.print_power.Statement.{statement}
 use Rattle.words.proofs.lines.print_power.Tie as tie
 
 returns : tie.Need-returns
-unfolding powerLine
+unfolding power_line
 returns c =
     let print3 = c.before.before in
     let print-hex = print3.before.before.before.before.before in

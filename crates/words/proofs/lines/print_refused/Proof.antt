@@ -1,12 +1,12 @@
 -- Each piece is printed behind the one before.
-use Rattle.words.specs.Lines.{refusedLine}
+use Rattle.words.specs.Lines.{refused_line}
 use Rattle.words.proofs.Pages.{◌then◌}
 use borrow.Author.Rules.{rules}
 use Rattle.words.proofs.lines.print_refused.Statement.{statement}
 use Rattle.words.proofs.lines.print_refused.Tie as tie
 
 returns : tie.Need-returns
-unfolding refusedLine
+unfolding refused_line
 returns c =
     let print = c.before.before in
     let print-advice = print.before.before.before.before.before in

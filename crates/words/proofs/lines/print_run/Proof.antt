@@ -1,12 +1,12 @@
 -- Each piece is printed behind the one before.
-use Rattle.words.specs.Lines.{runLine}
+use Rattle.words.specs.Lines.{run_line}
 use Rattle.words.proofs.Pages.{◌then◌}
 use borrow.Author.Rules.{rules}
 use Rattle.words.proofs.lines.print_run.Statement.{statement}
 use Rattle.words.proofs.lines.print_run.Tie as tie
 
 returns : tie.Need-returns
-unfolding runLine
+unfolding run_line
 returns c =
     let print = c.before.before in
     let print-grown3 = print.before.before.before.before.before in

@@ -1,18 +1,18 @@
 -- A line for a whole byte, else nothing.
-use Rattle.words.specs.Lines.{shownText}
+use Rattle.words.specs.Lines.{shown_text}
 use Rattle.words.proofs.Pages.{none}
 use borrow.Author.Rules.{rules}
 use Rattle.words.proofs.lines.print_shown.Statement.{statement}
 use Rattle.words.proofs.lines.print_shown.Tie as tie
 
 returns : tie.Need-returns
-unfolding shownText
+unfolding shown_text
 returns c =
     rw c.enum_told.given.1
     (none _)
 
 returns-2 : tie.Need-returns-2
-unfolding shownText
+unfolding shown_text
 returns-2 c =
     let print-byte = c.before.before in
     let taken = print-byte.before.before.before in

@@ -1,12 +1,12 @@
 -- Each piece is printed behind the one before.
-use Rattle.words.specs.Lines.{storedLine}
+use Rattle.words.specs.Lines.{stored_line}
 use Rattle.words.proofs.Pages.{◌then◌}
 use borrow.Author.Rules.{rules}
 use Rattle.words.proofs.lines.print_stored.Statement.{statement}
 use Rattle.words.proofs.lines.print_stored.Tie as tie
 
 returns : tie.Need-returns
-unfolding storedLine
+unfolding stored_line
 returns c =
     let print2 = c.before.before in
     let print-address = print2.before.before.before.before.before in

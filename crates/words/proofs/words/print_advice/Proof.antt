@@ -1,13 +1,13 @@
 -- A sentence for each number, and none for others.
 use borrow.Author.Tests.{ne_eqb}
-use Rattle.words.specs.Words.{adviceText}
+use Rattle.words.specs.Words.{advice_text}
 use Rattle.words.proofs.Pages.{none}
 use borrow.Author.Rules.{rules}
 use Rattle.words.proofs.words.print_advice.Statement.{statement}
 use Rattle.words.proofs.words.print_advice.Tie as tie
 
 returns : tie.Need-returns
-unfolding adviceText
+unfolding advice_text
 returns c =
     let print = c.before.before in
     let match = print.before.before.before in
@@ -15,7 +15,7 @@ returns c =
     print.print.ensures
 
 returns-2 : tie.Need-returns-2
-unfolding adviceText
+unfolding advice_text
 returns-2 c =
     let print2 = c.before.before in
     let match = print2.before.before.before in
@@ -23,7 +23,7 @@ returns-2 c =
     print2.print2.ensures
 
 returns-3 : tie.Need-returns-3
-unfolding adviceText
+unfolding advice_text
 returns-3 c =
     let print3 = c.before.before in
     let match = print3.before.before.before in
@@ -31,7 +31,7 @@ returns-3 c =
     print3.print3.ensures
 
 returns-4 : tie.Need-returns-4
-unfolding adviceText
+unfolding advice_text
 returns-4 c =
     let print4 = c.before.before in
     let match = print4.before.before.before in
@@ -39,7 +39,7 @@ returns-4 c =
     print4.print4.ensures
 
 returns-5 : tie.Need-returns-5
-unfolding adviceText
+unfolding advice_text
 returns-5 c =
     let print5 = c.before.before in
     let match = print5.before.before.before in
@@ -47,7 +47,7 @@ returns-5 c =
     print5.print5.ensures
 
 returns-6 : tie.Need-returns-6
-unfolding adviceText
+unfolding advice_text
 returns-6 c =
     let print6 = c.before.before in
     let match = print6.before.before.before in
@@ -55,7 +55,7 @@ returns-6 c =
     print6.print6.ensures
 
 returns-7 : tie.Need-returns-7
-unfolding adviceText
+unfolding advice_text
 returns-7 c =
     let rest = c.match.rest in
     let third = rest.0.0.0 in

@@ -1,11 +1,11 @@
 -- A name for each command.
-use Rattle.words.specs.Words.{commandText}
+use Rattle.words.specs.Words.{command_text}
 use borrow.Author.Rules.{rules}
 use Rattle.words.proofs.words.print_command.Statement.{statement}
 use Rattle.words.proofs.words.print_command.Tie as tie
 
 returns : tie.Need-returns
-unfolding commandText
+unfolding command_text
 returns c =
     let print = c.before.before in
     let enum_told = print.before.before.before in
@@ -13,7 +13,7 @@ returns c =
     print.print.ensures
 
 returns-2 : tie.Need-returns-2
-unfolding commandText
+unfolding command_text
 returns-2 c =
     let print2 = c.before.before in
     let enum-told2 = print2.before.before.before in
@@ -21,7 +21,7 @@ returns-2 c =
     print2.print2.ensures
 
 returns-3 : tie.Need-returns-3
-unfolding commandText
+unfolding command_text
 returns-3 c =
     let print3 = c.before.before in
     let enum-told3 = print3.before.before.before in
@@ -29,7 +29,7 @@ returns-3 c =
     print3.print3.ensures
 
 returns-4 : tie.Need-returns-4
-unfolding commandText
+unfolding command_text
 returns-4 c =
     let print4 = c.before.before in
     let enum-told4 = print4.before.before.before in
@@ -37,7 +37,7 @@ returns-4 c =
     print4.print4.ensures
 
 returns-5 : tie.Need-returns-5
-unfolding commandText
+unfolding command_text
 returns-5 c =
     let print5 = c.before.before in
     let enum-told5 = print5.before.before.before in
@@ -45,7 +45,7 @@ returns-5 c =
     print5.print5.ensures
 
 returns-6 : tie.Need-returns-6
-unfolding commandText
+unfolding command_text
 returns-6 c =
     let print6 = c.before.before in
     let enum-told6 = print6.before.before.before in
@@ -53,7 +53,7 @@ returns-6 c =
     print6.print6.ensures
 
 returns-7 : tie.Need-returns-7
-unfolding commandText
+unfolding command_text
 returns-7 c =
     let print7 = c.before.before in
     let enum-told7 = print7.before.before.before in
@@ -61,7 +61,7 @@ returns-7 c =
     print7.print7.ensures
 
 returns-8 : tie.Need-returns-8
-unfolding commandText
+unfolding command_text
 returns-8 c =
     let print8 = c.before.before in
     let enum-told8 = print8.before.before.before in
@@ -69,7 +69,7 @@ returns-8 c =
     print8.print8.ensures
 
 returns-9 : tie.Need-returns-9
-unfolding commandText
+unfolding command_text
 returns-9 c =
     let print9 = c.before.before in
     let enum-told9 = print9.before.before.before in
@@ -77,7 +77,7 @@ returns-9 c =
     print9.print9.ensures
 
 returns-10 : tie.Need-returns-10
-unfolding commandText
+unfolding command_text
 returns-10 c =
     let print10 = c.before.before in
     let enum-told10 = print10.before.before.before in
@@ -85,7 +85,7 @@ returns-10 c =
     print10.print10.ensures
 
 returns-11 : tie.Need-returns-11
-unfolding commandText
+unfolding command_text
 returns-11 c =
     let print11 = c.before.before in
     let enum-told11 = print11.before.before.before in

@@ -1,11 +1,11 @@
 -- A word for each reason.
-use Rattle.words.specs.Words.{reasonText}
+use Rattle.words.specs.Words.{reason_text}
 use borrow.Author.Rules.{rules}
 use Rattle.words.proofs.words.print_reason.Statement.{statement}
 use Rattle.words.proofs.words.print_reason.Tie as tie
 
 returns : tie.Need-returns
-unfolding reasonText
+unfolding reason_text
 returns c =
     let print = c.before.before in
     let enum_told = print.before.before.before in
@@ -13,7 +13,7 @@ returns c =
     print.print.ensures
 
 returns-2 : tie.Need-returns-2
-unfolding reasonText
+unfolding reason_text
 returns-2 c =
     let print2 = c.before.before in
     let enum-told2 = print2.before.before.before in
@@ -21,7 +21,7 @@ returns-2 c =
     print2.print2.ensures
 
 returns-3 : tie.Need-returns-3
-unfolding reasonText
+unfolding reason_text
 returns-3 c =
     let print3 = c.before.before in
     let enum-told3 = print3.before.before.before in

@@ -1,15 +1,15 @@
 -- The level of /CS is kept.
-use Rattle.pins.specs.Edges.{holdFall}
+use Rattle.pins.specs.Edges.{hold_fall}
 use borrow.Author.Rules.{rules}
 use Rattle.pins.proofs.state.State.hold_fall.Statement.{statement}
 use Rattle.pins.proofs.state.State.hold_fall.Tie as tie
 
 returns : tie.Need-returns
-unfolding holdFall
+unfolding hold_fall
 returns c = simp (c.silent.ensures, ← c.before.before.cs.ensures, c.before.if1.true)
 
 returns-2 : tie.Need-returns-2
-unfolding holdFall
+unfolding hold_fall
 returns-2 c = simp (c.silent2.ensures, ← c.before.before.cs.ensures, c.before.if1.false)
 
 pub hold-fall-spec : {M : Type 1} → statement M

@@ -1,11 +1,11 @@
 -- A bit more of SO, or a whole byte, which has its place or none.
-use Rattle.report.specs.Record.{risen, shownAfter}
+use Rattle.report.specs.Record.{risen, shown_after}
 use borrow.Author.Rules.{rules}
 use Rattle.report.proofs.record.Record.rise.Statement.{statement}
 use Rattle.report.proofs.record.Record.rise.Tie as tie
 
 returns : tie.Need-returns
-unfolding risen shownAfter
+unfolding risen shown_after
 returns c =
     let bit = c.before.sample2.given.1 in
     let sampled = c.before.before.before in
@@ -15,7 +15,7 @@ returns c =
     )
 
 returns-2 : tie.Need-returns-2
-unfolding risen shownAfter
+unfolding risen shown_after
 returns-2 c =
     let told = c.before.before.before.before in
     let sampled = told.before.before in
