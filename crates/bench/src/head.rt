@@ -7,7 +7,7 @@ use trace::items::LAST_BYTE;
 use trace::reader::number_at;
 
 // A leading number with the place after it, or a refusal.
-#[derive(Drop)]
+#[derive(Clone, Copy)]
 pub struct Lead {
     pub refusal: u8,
     pub value: u64,
@@ -15,7 +15,7 @@ pub struct Lead {
 }
 
 // Both numbers with the place of the first item, or a refusal.
-#[derive(Drop)]
+#[derive(Clone, Copy)]
 pub struct Head {
     pub refusal: u8,
     pub part: u64,

@@ -1,4 +1,6 @@
 // The story block-protected.spell, in examples/: its report, and the story told.
+#![tactic(auto)]
+
 use stories::tell_input;
 
 fn main() {

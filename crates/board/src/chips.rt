@@ -9,7 +9,7 @@ use pins::state::State;
 pub const MOST: usize = 8;
 
 // The chips' states, in chip order. It goes in by value and comes back by value.
-#[derive(Drop)]
+#[derive(Clone, Copy)]
 pub struct Board {
     // How many chips there are; the places behind them mean nothing.
     pub count: usize,
@@ -17,7 +17,7 @@ pub struct Board {
 }
 
 // How many bytes are a chip's, or those of chips together: of the slice, and of the serials.
-#[derive(Drop)]
+#[derive(Clone, Copy)]
 pub(crate) struct Lengths {
     pub(crate) array: usize,
     pub(crate) serials: usize,

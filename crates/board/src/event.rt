@@ -10,7 +10,7 @@ use crate::so::{BoardSo, board_so};
 use chip::event::event as chip_event;
 
 // The answer to an event on the board. "No note is given".
-#[derive(Drop)]
+#[derive(Clone, Copy)]
 pub struct BoardAnswer {
     pub refusal: u8,
     pub so: BoardSo,
@@ -18,7 +18,7 @@ pub struct BoardAnswer {
 }
 
 // What one chip's event led to: its refusal, or 0, and the board.
-#[derive(Drop)]
+#[derive(Clone, Copy)]
 struct OwnMove {
     refusal: u8,
     board: Board,

@@ -10,21 +10,21 @@ use pins::state::State;
 use supply::power::power_up as chip_power_up;
 
 // A chip that is asked for: its part and its kept bits.
-#[derive(Drop)]
+#[derive(Clone, Copy)]
 pub struct Asked {
     pub part: u64,
     pub kept: u64,
 }
 
 // The chips that are asked for, in chip order.
-#[derive(Drop)]
+#[derive(Clone, Copy)]
 pub struct Plan {
     // How many there are; the places behind them mean nothing.
     pub count: usize,
     pub chips: [Asked; MOST],
 }
 
-#[derive(Drop)]
+#[derive(Clone, Copy)]
 pub struct PoweredBoard {
     pub refusal: u8,
     pub board: Board,

@@ -8,7 +8,7 @@ use crate::chips::Board;
 use select::notes::Level;
 
 // "released, the one driver's level, or "fight" where two or more drive"
-#[derive(Drop)]
+#[derive(Clone, Copy)]
 pub enum BoardSo {
     Low,
     High,

@@ -3,6 +3,8 @@
 // entry: `e21` is event 1 of chip 2, which at a shared line says nothing; `b06` clocks in the byte 06h, eight times SI, SCK up, SCK
 // down. What is printed is the board's SO after an event, and after each fall of a byte: 0, 1, 2 released, 3 fight; or ! and the
 // refusal.
+#![tactic(auto)]
+
 use board::chips::Board;
 use board::event::event;
 use board::power::{Asked, Plan, power_up};

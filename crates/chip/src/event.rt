@@ -9,7 +9,7 @@ use pins::state::State;
 use select::notes::{Level, Note};
 
 // The answer to an event.
-#[derive(Drop)]
+#[derive(Clone, Copy)]
 pub struct Answer {
     pub refusal: u8,
     pub so: Level,

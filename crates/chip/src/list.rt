@@ -7,7 +7,7 @@ use crate::run::{go, lend_refusal};
 use pins::state::State;
 
 // The answer to a list: the refusal that stopped it, or 0, the count of events accepted, and the state that they made.
-#[derive(Drop)]
+#[derive(Clone, Copy)]
 pub struct Listed {
     pub refusal: u8,
     pub count: usize,

@@ -16,7 +16,7 @@ use step::step::{Stepped, refuse, step, store};
 
 // How far the codes were taken: the refusal that stopped them, or 0, the count of those accepted, the last one's note,
 // and the state that they made.
-#[derive(Drop)]
+#[derive(Clone, Copy)]
 pub(crate) struct Ran {
     pub(crate) refusal: u8,
     pub(crate) count: usize,

@@ -11,6 +11,8 @@
 //   w, r      the lender writes this byte at address 0; the byte at this address
 //   n         the lender writes this byte as the serial number's first
 //   S         the state in an op-code of which these bits came, with the 1 before them
+#![tactic(auto)]
+
 use chip::event::event;
 use libc::{STDIN_FILENO, STDOUT_FILENO};
 use pins::state::State;
@@ -19,7 +21,7 @@ use stages::stage::{Line, Stage};
 use supply::power::{fill, fill_with, power_up};
 
 // The line's letter, 0 at its start; the number so far; what is set for the calls; and the chip.
-#[derive(Drop)]
+#[derive(Clone, Copy)]
 struct Desk {
     letter: u8,
     digits: bool,

@@ -30,7 +30,7 @@ each [] test P k = k (λ c h. absurd c)
 each (Fs ∷ Fss) test P k =
     when (test 0)
     (λ first.
-    each Fss (λ n. test (suc n)) (λ c. P (inr c)) (λ rest. k (λ c. elim c [ inl v ↦ λ h. first h v | inr d ↦ rest d ])))
+    each Fss (λ n. test (suc n)) (λ c. P (inr c)) (λ rest. k (λ c. elim c as (λ x. T (test (tag (rowss (Fs ∷ Fss)) (intoss (Fs ∷ Fss) x))) → P x) [ inl v ↦ λ h. first h v | inr d ↦ rest d ])))
 
 listed : (b : Bool) → (T (not b) → ⊥) → T b
 listed true h = tt

@@ -1,5 +1,7 @@
 // Lists of events at once, on part 1 with 80h at address 0, and on part 5. Each line of the file `stdout` was worked out by hand from
 // documents 01 and 02; the comment above a call says why. Every place of the answers held 9 before the call.
+#![tactic(auto)]
+
 use chip::list::{Listed, events};
 use libc::STDOUT_FILENO;
 use pins::state::State;

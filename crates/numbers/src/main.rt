@@ -1,5 +1,7 @@
 // Lists the numbers of a trace. One line for each, with its place and what it is, and a last line for the end or the
 // refusal that stops it.
+#![tactic(auto)]
+
 use libc::{STDIN_FILENO, STDOUT_FILENO};
 use trace::answer::{Read, Refusal, number_of};
 use trace::items::{LAST_BYTE, pulses_of};
@@ -9,7 +11,7 @@ use trace::reader::{MOST_BYTES, number_at};
 const FIRST_BYTE: u64 = 12;
 
 // What a number is by its place among the numbers.
-#[derive(Drop)]
+#[derive(Clone, Copy)]
 enum Role {
     Part,
     Kept,

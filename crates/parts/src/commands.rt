@@ -2,7 +2,7 @@
 ghost use Rattle.std.specs.Prelude.{◌≡◌};
 ghost use Rattle.parts.specs.Commands.{command};
 
-#[derive(Drop)]
+#[derive(Clone, Copy)]
 pub enum Command {
     Wren,
     Wrdi,
@@ -19,7 +19,7 @@ pub enum Command {
 }
 
 // An op-code with its command.
-#[derive(Drop)]
+#[derive(Clone, Copy)]
 pub struct Op {
     pub code: u8,
     pub command: Command,

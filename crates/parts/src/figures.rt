@@ -10,7 +10,7 @@ pub const IDENT: usize = 9;
 // How many bytes a serial number has: "a serial number of eight bytes".
 pub const SERIAL: usize = 8;
 
-#[derive(Drop)]
+#[derive(Clone, Copy)]
 pub struct Figure {
     // Bytes of the array.
     pub size: usize,

@@ -4,14 +4,14 @@ ghost use Rattle.parts.specs.Guards.{first_protected, may_store, may_keep};
 
 use crate::figures::Figure;
 
-#[derive(Drop)]
+#[derive(Clone, Copy)]
 pub enum Reason {
     LatchOff,
     Protect,
     Block,
 }
 
-#[derive(Drop)]
+#[derive(Clone, Copy)]
 pub enum Verdict {
     Allowed,
     HeldBack(Reason),

@@ -3,7 +3,7 @@ ghost use Rattle.std.specs.Prelude.{◌≡◌};
 ghost use Rattle.pins.specs.Levels.{hold_high};
 
 // The level of /HOLD; where it is low, with the level of /CS, whose moves are not seen then.
-#[derive(Drop)]
+#[derive(Clone, Copy)]
 pub enum Hold {
     High,
     LowCsLow,

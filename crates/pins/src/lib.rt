@@ -1,4 +1,6 @@
 // The chip's state by value, its lines, the edges of its pins, and the soundness test.
+#![tactic(auto)]
+
 pub mod edges;
 pub mod hold;
 pub mod sound;

@@ -10,7 +10,7 @@ use stages::stage::{Line, Stage};
 
 // With /HOLD high the level of /CS is high exactly where no select is open, so it has no field of its own. What SO
 // shows is in the stage. SI and /WP are only carried along by most events, so they are no bools (docs/SPEED.md).
-#[derive(Drop)]
+#[derive(Clone, Copy)]
 pub struct State {
     pub part: u8,
     pub kept: u8,
@@ -24,7 +24,7 @@ pub struct State {
 }
 
 // A state with the note of what led to it.
-#[derive(Drop)]
+#[derive(Clone, Copy)]
 pub struct Moved {
     pub state: State,
     pub note: Note,

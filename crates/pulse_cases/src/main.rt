@@ -6,6 +6,8 @@
 //
 // The longest: some bytes, then FF FF FF 7F, which is 268,435,188 pulses, as often as 32,768 bytes allow. Each report in the
 // file `stdout` was worked out by hand; the comment above a call says how.
+#![tactic(auto)]
+
 use bench::replay::replay;
 use bench::text::report;
 use libc::STDOUT_FILENO;

@@ -1,4 +1,6 @@
 // Long runs of pulses (document 02, Wish 7).
+#![tactic(auto)]
+
 pub mod read;
 pub mod run;
 pub mod skip;

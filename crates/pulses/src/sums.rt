@@ -12,7 +12,7 @@ use stages::close::is_closed;
 use turns::stand::Stand;
 
 // What stands after some pulses, and how many are left.
-#[derive(Drop)]
+#[derive(Clone, Copy)]
 pub struct Skipped {
     pub stand: Stand,
     pub left: u64,

@@ -4,6 +4,8 @@
 // A line of the input is a comment, `# ..`; a title, `= ..`, which is printed; bytes of the trace, two hex digits each,
 // with spaces between them; or empty, which ends the case, as the end of the input does. A line that is none of these, or
 // that has more bytes than there is room for, is said so by its number, and the rest of it is left out.
+#![tactic(auto)]
+
 use bench::replay::replay;
 use libc::{STDIN_FILENO, STDOUT_FILENO};
 
@@ -14,7 +16,7 @@ const LONGEST: usize = 256;
 
 // Where the next byte of the input stands: at a line's start, in a comment, in a title, before a byte of the trace, or
 // between its two digits.
-#[derive(Drop)]
+#[derive(Clone, Copy)]
 enum Place {
     Start,
     Comment,
@@ -24,7 +26,7 @@ enum Place {
 }
 
 // The case so far: its trace has `len` bytes.
-#[derive(Drop)]
+#[derive(Clone, Copy)]
 struct Case {
     place: Place,
     line: u64,

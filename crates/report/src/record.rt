@@ -10,7 +10,7 @@ pub const SHOWN: usize = 64;
 
 pub const CODE_CLOCKS: u64 = 8;
 
-#[derive(Drop)]
+#[derive(Clone, Copy)]
 pub struct Record {
     // Whether the chip slept before the select, which is ignored then.
     pub ignored: bool,

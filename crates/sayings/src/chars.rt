@@ -3,7 +3,7 @@ ghost use Rattle.std.specs.Prelude.{◌≡◌};
 ghost use Rattle.sayings.specs.Characters.{kind_of, lowered, digit_of};
 
 // What a character is outside a comment.
-#[derive(Drop)]
+#[derive(Clone, Copy)]
 pub enum Kind {
     NewLine,
     Hash,

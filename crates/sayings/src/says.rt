@@ -28,7 +28,7 @@ const PINS: u8 = 6;
 const MOST_PULSES: u64 = LARGEST - LAST_BYTE;
 
 // What may stand next: a word of the first line, a line's end, any word of a later line, or what such a word asks for.
-#[derive(Drop)]
+#[derive(Clone, Copy)]
 pub enum Next {
     Part,
     PartNumber,
@@ -45,7 +45,7 @@ pub enum Next {
 
 // What a word or a line's end says: nothing that may stand there; only what stands next; an item and what stands next;
 // a byte of the line's select, or the end of that select; pulses in hold; bits, which the word itself has.
-#[derive(Drop)]
+#[derive(Clone, Copy)]
 pub enum Said {
     Wrong,
     Then { next: Next },

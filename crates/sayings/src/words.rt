@@ -6,7 +6,7 @@ use crate::chars::{digit, lower};
 use trace::number::LARGEST;
 
 // A word as a number, where it is one.
-#[derive(Drop)]
+#[derive(Clone, Copy)]
 pub enum Numeral {
     Not,
     Is { n: u64 },

@@ -1,14 +1,14 @@
 // What an answer says: the level of SO, and one note.
 use parts::guards::Reason;
 
-#[derive(Drop)]
+#[derive(Clone, Copy)]
 pub enum Level {
     Low,
     High,
     Released,
 }
 
-#[derive(Drop)]
+#[derive(Clone, Copy)]
 pub enum Note {
     Nothing,
     Latch(bool),

@@ -13,7 +13,7 @@ use stages::stage::{Came, End, Line, Purpose, Stage, What};
 use stages::wp::{byte_came, byte_wp, came_up, is_up};
 
 // What a rise reads besides the stage.
-#[derive(Drop)]
+#[derive(Clone, Copy)]
 pub struct Seen {
     pub latch: bool,
     pub kept: u8,
@@ -22,7 +22,7 @@ pub struct Seen {
 }
 
 // What a rise leaves.
-#[derive(Drop)]
+#[derive(Clone, Copy)]
 pub struct Risen {
     pub stage: Stage,
     pub latch: bool,

@@ -29,7 +29,7 @@ const TABLE: [u8; 256] = [
 ];
 
 // Whether the long division gives the check byte; the last is refusal 15.
-#[derive(Drop)]
+#[derive(Clone, Copy)]
 pub enum Checked {
     Yes,
     No,

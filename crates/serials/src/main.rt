@@ -3,6 +3,8 @@
 //
 // A line that begins with `=` is a title, which says what the next serial number is about. The file `stdout` was worked out by a long
 // division, bit by bit, and not by this program.
+#![tactic(auto)]
+
 ghost use Rattle.std.specs.Prelude.{◌≤◌, ◌<◌, length};
 ghost use Rattle.io.specs.Counts.{IsPrefixLen};
 

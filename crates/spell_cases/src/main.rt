@@ -3,6 +3,8 @@
 //
 // A line of the input that begins with `=` is a title, which is printed; the lines up to the next one, or to the input's
 // end, are a text. Its trace is printed in hex, a line of it; or the line that says what is wrong.
+#![tactic(auto)]
+
 ghost use Rattle.std.specs.Prelude.{◌≤◌, ◌<◌, length};
 
 use libc::{STDIN_FILENO, STDOUT_FILENO};

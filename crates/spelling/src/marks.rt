@@ -5,7 +5,7 @@ ghost use Rattle.spelling.specs.Marks.{char_at, word_ended, ends_line, line_ende
 use sayings::chars::Kind;
 
 // Where a character stands: between words, in a comment, or in the word that began at a place.
-#[derive(Drop)]
+#[derive(Clone, Copy)]
 pub enum Mode {
     Between,
     Comment,
@@ -13,7 +13,7 @@ pub enum Mode {
 }
 
 // The word that a character ends, by the place where it began.
-#[derive(Drop)]
+#[derive(Clone, Copy)]
 pub enum Ended {
     Nothing,
     Word { from: usize },

@@ -17,7 +17,7 @@ use trace::number::write_at;
 const FIRST_BYTE: u64 = 12;
 
 // The place behind what was put, or no room for all of it.
-#[derive(Drop)]
+#[derive(Clone, Copy)]
 pub enum Laid {
     Behind { at: usize },
     Full,

@@ -12,7 +12,7 @@ use trace::reader::MOST_BYTES;
 pub const LONGEST: usize = 262_144;
 
 // A place of a text, both counted from 1.
-#[derive(Drop)]
+#[derive(Clone, Copy)]
 pub struct Place {
     pub line: u64,
     pub column: u64,
@@ -20,7 +20,7 @@ pub struct Place {
 
 // The trace's length; or a place, and what was expected there; or the place of what has no room in the trace; or a text
 // that is too long.
-#[derive(Drop)]
+#[derive(Clone, Copy)]
 pub enum Answer {
     Spelt { length: usize },
     Wrong { place: Place, expected: Next },

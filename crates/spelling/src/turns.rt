@@ -11,7 +11,7 @@ use sayings::chars::kind_of;
 use sayings::says::{Next, Said, hear, hear_end};
 
 // Where the reading of a text stands: whether the line's select is open, what may stand next, and the trace's length.
-#[derive(Drop)]
+#[derive(Clone, Copy)]
 pub struct Here {
     pub selected: bool,
     pub next: Next,
@@ -19,7 +19,7 @@ pub struct Here {
 }
 
 // What follows what was said: it stands elsewhere now; nothing that may be said here; no room for its items.
-#[derive(Drop)]
+#[derive(Clone, Copy)]
 pub enum Step {
     On { here: Here },
     Wrong,
@@ -27,7 +27,7 @@ pub enum Step {
 }
 
 // The same, with the place of the word or line's end in the text, and what was expected there.
-#[derive(Drop)]
+#[derive(Clone, Copy)]
 pub enum Turn {
     On { here: Here },
     Wrong { place: usize, expected: Next },

@@ -5,7 +5,7 @@ ghost use Rattle.stages.specs.Bits.{take_bit, bit_of};
 use crate::stage::Line;
 
 // A byte after one more bit.
-#[derive(Drop)]
+#[derive(Clone, Copy)]
 pub enum Taken {
     Part(u16),
     Whole(u8),

@@ -1,4 +1,6 @@
 // The stages of a select: what stands in the chip between two clocks, the bits and the address that it takes.
+#![tactic(auto)]
+
 pub mod address;
 pub mod bits;
 pub mod close;

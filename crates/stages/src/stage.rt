@@ -4,14 +4,14 @@
 // (docs/SPEED.md says why): time a change.
 
 // A level, as a stage remembers it.
-#[derive(Drop)]
+#[derive(Clone, Copy)]
 pub enum Line {
     Down,
     Up,
 }
 
 // What a READ, an FSTRD or a WRITE wants its address for.
-#[derive(Drop)]
+#[derive(Clone, Copy)]
 pub enum Purpose {
     ToRead,
     ToReadFast,
@@ -19,7 +19,7 @@ pub enum Purpose {
 }
 
 // What is shown.
-#[derive(Drop)]
+#[derive(Clone, Copy)]
 pub enum What {
     Array,
     Status,
@@ -29,7 +29,7 @@ pub enum What {
 
 // What of a WRITE's data came: nothing whole yet, or at least one whole byte; and, in one byte with it, whether /WP was low at
 // the first rise of the byte under way.
-#[derive(Drop)]
+#[derive(Clone, Copy)]
 pub enum Came {
     NoByte,
     NoByteLow,
@@ -38,7 +38,7 @@ pub enum Came {
 }
 
 // What the close of a select does besides: nothing, or the latch drops, or the chip falls asleep.
-#[derive(Drop)]
+#[derive(Clone, Copy)]
 pub enum End {
     Quiet,
     Drops,
@@ -47,7 +47,7 @@ pub enum End {
 
 // `shift` is the bits of a byte that came so far, the newest lowest, with a 1 before them: 1 is none yet.
 // The order of the cases is timed too (docs/SPEED.md): what a rise leaves alone stands first, what drives SO last.
-#[derive(Drop)]
+#[derive(Clone, Copy)]
 pub enum Stage {
     // No select is open.
     Closed,

@@ -10,7 +10,7 @@ use select::notes::Note;
 use stages::close::is_closed;
 
 // What an event comes to; SO is then asked of the state.
-#[derive(Drop)]
+#[derive(Clone, Copy)]
 pub struct Stepped {
     pub refusal: u8,
     pub note: Note,

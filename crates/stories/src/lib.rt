@@ -1,4 +1,6 @@
 // A text told whole: what it spells is replayed, and then told as a story.
+#![tactic(auto)]
+
 use bench::replay::replay;
 use libc::STDIN_FILENO;
 use spelling::spell::{Answer, spell};

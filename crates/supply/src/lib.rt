@@ -1,2 +1,4 @@
 // Power-up, and a fresh array.
+#![tactic(auto)]
+
 pub mod power;

@@ -9,7 +9,7 @@ use pins::state::State;
 // Document 02, Wish 6: "A fresh array holds FF."
 const FRESH: u8 = 0xFF;
 
-#[derive(Drop)]
+#[derive(Clone, Copy)]
 pub struct Powered {
     pub refusal: u8,
     pub state: State,

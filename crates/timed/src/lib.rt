@@ -1,5 +1,7 @@
 // The two event calls as C sees them, for speed/: from power-up with kept bits 0, over the lent array and with the lent
 // serial number.
+#![tactic(auto)]
+
 use chip::event::event;
 use chip::list::events;
 use select::notes::Level;

@@ -1,5 +1,7 @@
 // The board's event call as C sees it, for speed/: from power-up of part 1 chips with kept bits 0, over the lent slice and with
 // no serials.
+#![tactic(auto)]
+
 use board::event::event;
 use board::power::{Asked, Plan, power_up};
 

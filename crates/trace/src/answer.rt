@@ -4,7 +4,7 @@ ghost use Rattle.std.specs.Prelude.{◌≡◌};
 ghost use Rattle.trace.specs.Answers.{number_of};
 
 // Rows 8 to 11 of document 01's table of refusals.
-#[derive(Drop)]
+#[derive(Clone, Copy)]
 pub enum Refusal {
     Malformed,
     TooLarge,
@@ -13,7 +13,7 @@ pub enum Refusal {
 }
 
 // A number and the place after it; or the slice's very end; or a refusal at the place given.
-#[derive(Drop)]
+#[derive(Clone, Copy)]
 pub enum Read {
     Number { value: u64, next: usize },
     End { at: usize },
@@ -21,7 +21,7 @@ pub enum Read {
 }
 
 // The place after what was written; or a refusal at the place given.
-#[derive(Drop)]
+#[derive(Clone, Copy)]
 pub enum Written {
     Placed { next: usize },
     Refused { refusal: Refusal, at: usize },

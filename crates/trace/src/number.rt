@@ -13,7 +13,7 @@ pub const LARGEST: u64 = 268_435_455;
 pub const GROUPS: usize = 4;
 
 // The number at a place, before its size is judged.
-#[derive(Drop)]
+#[derive(Clone, Copy)]
 enum Shape {
     Whole { value: u64, next: usize },
     Misshapen,

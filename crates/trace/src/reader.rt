@@ -7,7 +7,7 @@ ghost use Rattle.trace.specs.Reader.{reader_at};
 use crate::answer::Read;
 use crate::number::read_at;
 
-#[derive(Drop)]
+#[derive(Clone, Copy)]
 pub struct Reader<'a> {
     pub src: &'a [u8],
     pub at: usize,

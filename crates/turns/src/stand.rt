@@ -9,7 +9,7 @@ use report::record::{Record, SHOWN, count};
 use stages::close::is_asleep;
 use stages::wp::is_up;
 
-#[derive(Drop)]
+#[derive(Clone, Copy)]
 pub struct Stand {
     pub chip: State,
     pub selects: u64,

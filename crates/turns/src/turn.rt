@@ -10,7 +10,7 @@ use parts::figures::SERIAL;
 use report::record::SHOWN;
 
 // What stands on the bench after some events, the refusal that stopped them, or 0, and how much of the page is printed.
-#[derive(Drop)]
+#[derive(Clone, Copy)]
 pub struct Turn {
     pub refusal: u8,
     pub stand: Stand,

@@ -1,5 +1,7 @@
 // The stories of many traces. Each in the file `stdout` was worked out by hand from documents 01 and 02, below the title that says
 // what its trace is about.
+#![tactic(auto)]
+
 use libc::STDOUT_FILENO;
 use story::watch::watch;
 

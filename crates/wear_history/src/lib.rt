@@ -1,1 +1,2 @@
 // No code: the counters are the history's rows added up.
+#![tactic(auto)]
