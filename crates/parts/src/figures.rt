@@ -203,6 +203,7 @@ pub fn is_part(part: u64) -> bool
 }
 
 // A part's row; row 0 for a number that is no part's. By name: an index would build the whole table at each use.
+#[tactic(auto, unfolding(crate::specs::Figures::figure_of))]
 pub fn figure_of(part: u64) -> Figure
     ensures { result ≡ figure_of part }
 {

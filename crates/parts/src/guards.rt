@@ -18,6 +18,7 @@ pub enum Verdict {
 }
 
 // The first address that the block bits BP1 and BP0 guard; the size where they guard none.
+#[tactic(auto, unfolding(crate::specs::Guards::first_protected))]
 pub fn first_protected(f: Figure, kept: u8) -> usize
     ensures { result ≡ first_protected f kept }
 {
@@ -32,6 +33,7 @@ pub fn first_protected(f: Figure, kept: u8) -> usize
 }
 
 // Whether a whole memory byte may be stored; the lowest reason where not.
+#[tactic(auto, unfolding(crate::specs::Guards::may_store))]
 pub fn may_store(f: Figure, latch: bool, kept: u8, wp: bool, at: usize) -> Verdict
     ensures { result ≡ may_store f latch kept wp at }
 {
@@ -49,6 +51,7 @@ pub fn may_store(f: Figure, latch: bool, kept: u8, wp: bool, at: usize) -> Verdi
 }
 
 // Whether a whole status byte may be kept; blocks don't guard it.
+#[tactic(auto, unfolding(crate::specs::Guards::may_keep))]
 pub fn may_keep(f: Figure, latch: bool, kept: u8, wp: bool) -> Verdict
     ensures { result ≡ may_keep f latch kept wp }
 {
