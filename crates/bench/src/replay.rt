@@ -1,8 +1,13 @@
 // The replay: a trace is read, and its report, which `text` makes, is written.
 use crate::text::report;
-use libc::{STDIN_FILENO, STDOUT_FILENO};
 use report::lines::LINE;
 use trace::reader::MOST_BYTES;
+
+// Standard input.
+const STDIN_FILENO: i32 = 0;
+
+// Standard output.
+const STDOUT_FILENO: i32 = 1;
 
 // Room for the report of 32,768 bytes: a select takes two of them at least, 0 and 1, and a line is 256 bytes at most,
 // so 16,385 lines of selects, line 1 and the last line. This is argued here and not proved.

@@ -9,8 +9,10 @@ use board::chips::Board;
 use board::event::event;
 use board::power::{Asked, Plan, power_up};
 use board::so::BoardSo;
-use libc::STDOUT_FILENO;
 use pins::state::State;
+
+// Standard output.
+const STDOUT_FILENO: i32 = 1;
 
 fn main() {
     let mut array = [0u8; 3072];

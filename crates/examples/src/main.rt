@@ -14,11 +14,16 @@
 #![tactic(auto)]
 
 use chip::event::event;
-use libc::{STDIN_FILENO, STDOUT_FILENO};
 use pins::state::State;
 use select::notes::{Level, Note};
 use stages::stage::{Line, Stage};
 use supply::power::{fill, fill_with, power_up};
+
+// Standard input.
+const STDIN_FILENO: i32 = 0;
+
+// Standard output.
+const STDOUT_FILENO: i32 = 1;
 
 // The line's letter, 0 at its start; the number so far; what is set for the calls; and the chip.
 #[derive(Clone, Copy)]

@@ -3,9 +3,11 @@
 #![tactic(auto)]
 
 use chip::list::{Listed, events};
-use libc::STDOUT_FILENO;
 use pins::state::State;
 use supply::power::power_up;
+
+// Standard output.
+const STDOUT_FILENO: i32 = 1;
 
 fn main() {
     let mut array = [0u8; 512];

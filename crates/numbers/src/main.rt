@@ -2,10 +2,15 @@
 // refusal that stops it.
 #![tactic(auto)]
 
-use libc::{STDIN_FILENO, STDOUT_FILENO};
 use trace::answer::{Read, Refusal, number_of};
 use trace::items::{LAST_BYTE, pulses_of};
 use trace::reader::{MOST_BYTES, number_at};
+
+// Standard input.
+const STDIN_FILENO: i32 = 0;
+
+// Standard output.
+const STDOUT_FILENO: i32 = 1;
 
 // The first number that is a data byte.
 const FIRST_BYTE: u64 = 12;

@@ -10,11 +10,13 @@
 
 use bench::replay::replay;
 use bench::text::report;
-use libc::STDOUT_FILENO;
 use trace::answer::Written;
 use trace::items::LAST_BYTE;
 use trace::number::write_at;
 use trace::reader::MOST_BYTES;
+
+// Standard output.
+const STDOUT_FILENO: i32 = 1;
 
 // Room for the report of a case.
 const REPORT: usize = 4096;

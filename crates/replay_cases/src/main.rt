@@ -7,7 +7,12 @@
 #![tactic(auto)]
 
 use bench::replay::replay;
-use libc::{STDIN_FILENO, STDOUT_FILENO};
+
+// Standard input.
+const STDIN_FILENO: i32 = 0;
+
+// Standard output.
+const STDOUT_FILENO: i32 = 1;
 
 // The longest input, and the longest trace of a case.
 const INPUT: usize = 32768;

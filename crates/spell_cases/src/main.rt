@@ -7,12 +7,17 @@
 
 ghost use Rattle.std.specs.Prelude.{◌≤◌, ◌<◌, length};
 
-use libc::{STDIN_FILENO, STDOUT_FILENO};
 use report::lines::LINE;
 use sayings::words::wide;
 use speller::remarks::remark;
 use spelling::spell::{Answer, spell};
 use trace::reader::MOST_BYTES;
+
+// Standard input.
+const STDIN_FILENO: i32 = 0;
+
+// Standard output.
+const STDOUT_FILENO: i32 = 1;
 
 // The longest input.
 const INPUT: usize = 32768;

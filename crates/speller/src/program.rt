@@ -3,10 +3,18 @@ ghost use Rattle.std.specs.Prelude.{◌≤◌, length};
 ghost use Rattle.spelling.specs.Spelt.{most_bytes};
 
 use crate::remarks::remark;
-use libc::{STDERR_FILENO, STDIN_FILENO, STDOUT_FILENO};
 use report::lines::LINE;
 use spelling::spell::{Answer, LONGEST, spell};
 use trace::reader::MOST_BYTES;
+
+// Standard error.
+const STDERR_FILENO: i32 = 2;
+
+// Standard input.
+const STDIN_FILENO: i32 = 0;
+
+// Standard output.
+const STDOUT_FILENO: i32 = 1;
 
 // The front of a slice.
 fn write_front(out: &[u8], n: usize)

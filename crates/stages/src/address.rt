@@ -21,6 +21,7 @@ fn code_page(f: Figure, code: u8) -> u32
 }
 
 // The stage after the op-code of a READ or WRITE.
+#[tactic(auto, unfolding(crate::specs::Address::after_code))]
 pub fn header(f: Figure, purpose: Purpose, code: u8) -> Stage
     ensures { result ≡ after_code f purpose code }
 {
@@ -45,6 +46,7 @@ pub fn upper_page(f: Figure, byte: u8) -> u32
 }
 
 // The stage after the whole address.
+#[tactic(auto, unfolding(crate::specs::Address::after_address))]
 pub fn addressed(f: Figure, purpose: Purpose, page: u32, byte: u8) -> Stage
     ensures { result ≡ after_address f purpose page byte }
 {
@@ -72,6 +74,7 @@ pub fn addressed(f: Figure, purpose: Purpose, page: u32, byte: u8) -> Stage
 }
 
 // The next address, rolling from the last to 0.
+#[tactic(auto, unfolding(crate::specs::Address::next_address))]
 pub fn next_address(f: Figure, at: usize) -> usize
     ensures { result ≡ next_address f at }
 {

@@ -15,6 +15,7 @@ pub enum Taken {
 pub const NO_BITS: u16 = 1;
 
 // The byte with one more bit, "most significant bit first". The eighth bit pushes the 1 out.
+#[tactic(auto, unfolding(crate::specs::Bits::take_bit))]
 pub fn take_bit(shift: u16, si: bool) -> Taken
     ensures { result ≡ take_bit shift si }
 {
@@ -27,6 +28,7 @@ pub fn take_bit(shift: u16, si: bool) -> Taken
 }
 
 // Bit number `bit` of a byte.
+#[tactic(auto, unfolding(crate::specs::Bits::bit_of))]
 pub fn bit_of(byte: u8, bit: u16) -> Line
     ensures { result ≡ bit_of byte bit }
 {

@@ -67,6 +67,7 @@ pub fn after_close(stage: Stage) -> Stage
 }
 
 // The stage after a seen fall of /CS: an op-code is next; a chip that slept wakes, and nothing happens in this select.
+#[tactic(auto, unfolding(crate::specs::Close::after_fall))]
 pub fn after_fall(f: Figure, wp: bool, stage: Stage) -> Stage
     ensures { result ≡ after_fall f wp stage }
 {

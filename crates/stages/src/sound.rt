@@ -34,6 +34,7 @@ fn sound_last(f: Figure, came: Came, last: u32) -> bool
 }
 
 // Whether the stage is sound on this part. A data byte's level of /WP is up where no bit of it came.
+#[tactic(auto, unfolding(crate::specs::Sound::sound_stage))]
 pub fn sound_stage(f: Figure, stage: Stage) -> bool
     ensures { result ≡ sound_stage f stage }
 {

@@ -53,6 +53,7 @@ fn came_with(came: Came, wp: bool) -> Came
 }
 
 // The level that is remembered at the fall of /CS: the pin's where the part reads it there, else up.
+#[tactic(auto, unfolding(crate::specs::Wp::fall_wp))]
 pub fn fall_wp(f: Figure, pin: bool) -> Line
     ensures { result ≡ fall_wp f pin }
 {
@@ -65,6 +66,7 @@ pub fn fall_wp(f: Figure, pin: bool) -> Line
 
 // The level that counts for WRSR's data byte: the pin's at the byte's first rise, from then on the one that was remembered; on a
 // part that reads it at the fall of /CS, the one from there.
+#[tactic(auto, unfolding(crate::specs::Wp::byte_wp))]
 pub fn byte_wp(f: Figure, wp: Line, shift: u16, pin: bool) -> Line
     ensures { result ≡ byte_wp f wp shift pin }
 {
@@ -79,6 +81,7 @@ pub fn byte_wp(f: Figure, wp: Line, shift: u16, pin: bool) -> Line
 }
 
 // The same for a WRITE's.
+#[tactic(auto, unfolding(crate::specs::Wp::byte_came))]
 pub fn byte_came(came: Came, shift: u16, pin: bool) -> Came
     ensures { result ≡ byte_came came shift pin }
 {

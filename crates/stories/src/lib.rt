@@ -2,10 +2,12 @@
 #![tactic(auto)]
 
 use bench::replay::replay;
-use libc::STDIN_FILENO;
 use spelling::spell::{Answer, spell};
 use story::watch::watch;
 use trace::reader::MOST_BYTES;
+
+// Standard input.
+const STDIN_FILENO: i32 = 0;
 
 // The longest text.
 const INPUT: usize = 4096;

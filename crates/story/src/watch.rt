@@ -1,7 +1,12 @@
 // Watching: a trace is read, and its story, which `text` makes, is written.
 use crate::text::story;
-use libc::{STDIN_FILENO, STDOUT_FILENO};
 use trace::reader::MOST_BYTES;
+
+// Standard input.
+const STDIN_FILENO: i32 = 0;
+
+// Standard output.
+const STDOUT_FILENO: i32 = 1;
 
 // Room for the story of 32,768 bytes: 128 for each byte of the trace, since an item of one byte has no more than two lines
 // of 64, and a run of pulses, of two bytes at least, no more than 256; and 65,536 for the start, the end, a refusal and

@@ -2,8 +2,10 @@
 // what its trace is about.
 #![tactic(auto)]
 
-use libc::STDOUT_FILENO;
 use story::watch::watch;
+
+// Standard output.
+const STDOUT_FILENO: i32 = 1;
 
 fn main() {
     writes();
