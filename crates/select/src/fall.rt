@@ -23,6 +23,7 @@ fn byte_at(array: &[u8], at: usize) -> u8
 }
 
 // One bit of the array put on SO.
+#[tactic(auto, unfolding(crate::specs::Fall::show_array))]
 fn show_array(array: &[u8], at: usize, bit: u16) -> Stage
     ensures { result ≡ show_array array.now at bit }
 {
@@ -32,6 +33,7 @@ fn show_array(array: &[u8], at: usize, bit: u16) -> Stage
 }
 
 // One bit of the status byte put on SO.
+#[tactic(auto, unfolding(crate::specs::Fall::show_status))]
 fn show_status(status: u8, bit: u16) -> Stage
     ensures { result ≡ show_status status bit }
 {
@@ -40,6 +42,7 @@ fn show_status(status: u8, bit: u16) -> Stage
 }
 
 // One bit of the identification put on SO.
+#[tactic(auto, unfolding(crate::specs::Fall::show_ident))]
 fn show_ident(f: Figure, at: usize, bit: u16) -> Stage
     ensures { result ≡ show_ident f at bit }
 {
@@ -50,6 +53,7 @@ fn show_ident(f: Figure, at: usize, bit: u16) -> Stage
 }
 
 // Past a byte of the identification: the next, or nothing more.
+#[tactic(auto, unfolding(crate::specs::Fall::next_ident))]
 fn next_ident(f: Figure, at: usize) -> Stage
     ensures { result ≡ next_ident f at }
 {
@@ -61,6 +65,7 @@ fn next_ident(f: Figure, at: usize) -> Stage
 }
 
 // One bit of the serial number, as it is lent to this call, put on SO.
+#[tactic(auto, unfolding(crate::specs::Fall::show_serial))]
 fn show_serial(serial: &[u8], at: usize, bit: u16) -> Stage
     ensures { result ≡ show_serial serial.now at bit }
 {
@@ -70,6 +75,7 @@ fn show_serial(serial: &[u8], at: usize, bit: u16) -> Stage
 }
 
 // Past a byte of the serial number: the next, or nothing more.
+#[tactic(auto, unfolding(crate::specs::Fall::next_serial))]
 fn next_serial(f: Figure, serial: &[u8], at: usize) -> Stage
     ensures { result ≡ next_serial f serial.now at }
 {
@@ -83,6 +89,7 @@ fn next_serial(f: Figure, serial: &[u8], at: usize) -> Stage
 }
 
 // "Output moves on a seen fall of SCK once the header is whole." Every other stage stays.
+#[tactic(auto, unfolding(crate::specs::Fall::fall))]
 pub fn fall(f: Figure, array: &[u8], serial: &[u8], status: u8, stage: Stage) -> Stage
     ensures { result ≡ fall f serial.now array.now status stage }
 {

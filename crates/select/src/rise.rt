@@ -43,6 +43,7 @@ fn to_stage(seen: Seen, stage: Stage) -> Risen
 }
 
 // A whole op-code.
+#[tactic(auto, unfolding(crate::specs::Rise::opened))]
 fn open(f: Figure, seen: Seen, wp: Line, code: u8) -> Risen
     ensures { result ≡ opened f seen wp code }
 {
@@ -92,6 +93,7 @@ fn open(f: Figure, seen: Seen, wp: Line, code: u8) -> Risen
 }
 
 // A bit of the op-code.
+#[tactic(auto, unfolding(crate::specs::Rise::code_rise))]
 fn code_rise(f: Figure, seen: Seen, wp: Line, shift: u16) -> Risen
     ensures { result ≡ code_rise f seen wp shift }
 {
@@ -103,6 +105,7 @@ fn code_rise(f: Figure, seen: Seen, wp: Line, shift: u16) -> Risen
 }
 
 // A bit of the upper address byte, where the part has two.
+#[tactic(auto, unfolding(crate::specs::Rise::upper_rise))]
 fn upper_rise(f: Figure, seen: Seen, purpose: Purpose, shift: u16) -> Risen
     ensures { result ≡ upper_rise f seen purpose shift }
 {
@@ -124,6 +127,7 @@ fn upper_rise(f: Figure, seen: Seen, purpose: Purpose, shift: u16) -> Risen
 }
 
 // A bit of the last address byte.
+#[tactic(auto, unfolding(crate::specs::Rise::lower_rise))]
 fn lower_rise(f: Figure, seen: Seen, purpose: Purpose, shift: u16, page: u32) -> Risen
     ensures { result ≡ lower_rise f seen purpose shift page }
 {
@@ -142,6 +146,7 @@ fn lower_rise(f: Figure, seen: Seen, purpose: Purpose, shift: u16, page: u32) ->
 }
 
 // The dummy byte after an FSTRD's address: whatever it is, output is next.
+#[tactic(auto, unfolding(crate::specs::Rise::dummy_rise))]
 fn dummy_rise(seen: Seen, shift: u16, at: usize) -> Risen
     ensures { result ≡ dummy_rise seen shift at }
 {
@@ -169,6 +174,7 @@ fn store_note(at: usize, byte: u8, verdict: Verdict) -> Note
 }
 
 // A data byte of a WRITE: stored or held back at its eighth rise, and the address steps. The order of the calls is timed (docs/SPEED.md).
+#[tactic(auto, unfolding(crate::specs::Rise::write_rise))]
 fn write_rise(f: Figure, seen: Seen, came: Came, shift: u16, last: u32, at: usize) -> Risen
     ensures { result ≡ write_rise f seen came shift last at }
 {
@@ -205,6 +211,7 @@ fn write_rise(f: Figure, seen: Seen, came: Came, shift: u16, last: u32, at: usiz
 }
 
 // The first data byte of a WRSR: kept under the mask or held back at its eighth rise.
+#[tactic(auto, unfolding(crate::specs::Rise::keep_rise))]
 fn keep_rise(f: Figure, seen: Seen, wp: Line, shift: u16) -> Risen
     ensures { result ≡ keep_rise f seen wp shift }
 {
@@ -238,6 +245,7 @@ fn keep_rise(f: Figure, seen: Seen, wp: Line, shift: u16) -> Risen
 
 // "Each seen rise of SCK in an open select takes SI". What no rule names does nothing. One `_` for the stages that stay
 // was slower: time it before you write one (docs/SPEED.md).
+#[tactic(auto, unfolding(crate::specs::Rise::rise))]
 pub fn rise(f: Figure, seen: Seen, stage: Stage) -> Risen
     ensures { result ≡ rise f seen stage }
 {
