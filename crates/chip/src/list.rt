@@ -15,6 +15,7 @@ pub struct Listed {
 }
 
 // The refusals that come before the first event; 0 where none is given.
+#[tactic(auto, unfolding(crate::specs::List::list_refusal))]
 fn list_refusal(state: State, len: usize, serial: usize, codes: usize, levels: usize) -> u8
     ensures { result ≡ list_refusal state len serial codes levels }
 {

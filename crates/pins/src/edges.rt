@@ -25,6 +25,7 @@ impl State {
     }
 
     // A select opens, or the chip wakes; in hold only the level moves.
+    #[tactic(auto, unfolding(crate::specs::Edges::cs_fall))]
     pub fn cs_fall(self, f: Figure) -> Moved
         ensures { result ≡ cs_fall f self }
     {
@@ -54,6 +55,7 @@ impl State {
     }
 
     // The select closes, and the latch may drop or the chip fall asleep; in hold only the level moves.
+    #[tactic(auto, unfolding(crate::specs::Edges::cs_rise))]
     pub fn cs_rise(self) -> Moved
         ensures { result ≡ cs_rise self }
     {
@@ -95,6 +97,7 @@ impl State {
     }
 
     // A select takes a bit.
+    #[tactic(auto, unfolding(crate::specs::Edges::sck_rise))]
     pub fn sck_rise(self, f: Figure) -> Moved
         ensures { result ≡ sck_rise f self }
     {
@@ -130,6 +133,7 @@ impl State {
     }
 
     // A select may show a bit.
+    #[tactic(auto, unfolding(crate::specs::Edges::sck_fall))]
     pub fn sck_fall(self, f: Figure, array: &[u8], serial: &[u8]) -> Moved
         ensures { result ≡ sck_fall f serial.now array.now self }
     {
@@ -178,6 +182,7 @@ impl State {
     }
 
     // From here on moves of SCK and /CS are not seen.
+    #[tactic(auto, unfolding(crate::specs::Edges::hold_fall))]
     pub fn hold_fall(self) -> Moved
         ensures { result ≡ hold_fall self }
     {
@@ -196,6 +201,7 @@ impl State {
         }
     }
 
+    #[tactic(auto, unfolding(crate::specs::Edges::hold_rise))]
     pub fn hold_rise(self) -> Moved
         ensures { result ≡ hold_rise self }
     {

@@ -10,6 +10,7 @@ use stages::sound::sound_stage;
 use stages::wp::is_up;
 
 // Whether every line and bit but the kept ones is as at power-up.
+#[tactic(auto, unfolding(crate::specs::Sound::rests))]
 fn rests(s: State) -> bool
     ensures { result ≡ rests s }
 {
@@ -48,6 +49,7 @@ pub fn sound_by(f: Figure, s: State) -> bool
 }
 
 // Whether the state is sound.
+#[tactic(auto, unfolding(crate::specs::Sound::sound))]
 pub fn sound(s: State) -> bool
     ensures { result ≡ sound s }
 {

@@ -7,6 +7,7 @@ use crate::state::State;
 use stages::close::is_closed;
 
 // Whether a select is open.
+#[tactic(auto, unfolding(crate::specs::Watch::is_open))]
 pub fn is_open(s: State) -> bool
     ensures { result ≡ is_open s }
 {
@@ -15,6 +16,7 @@ pub fn is_open(s: State) -> bool
 }
 
 // Whether this event is a seen rise of SCK in an open select.
+#[tactic(auto, unfolding(crate::specs::Watch::sees_rise))]
 pub fn sees_rise(s: State, code: u64) -> bool
     ensures { result ≡ sees_rise s code }
 {

@@ -73,6 +73,7 @@ fn sck_high(state: State, f: Figure) -> Moved
 }
 
 // Whether /CS has the level that it had when /HOLD fell.
+#[tactic(auto, unfolding(crate::specs::Step::cs_stayed))]
 fn cs_stayed(state: State) -> bool
     ensures { result ≡ cs_stayed state }
 {
@@ -152,6 +153,7 @@ fn vdd_to(state: State, level: bool) -> Moved
 }
 
 // An event with power on. By the code and not by pin and level, so that each edge of SCK has one way (docs/SPEED.md).
+#[tactic(auto, unfolding(crate::specs::Step::live))]
 fn live(f: Figure, state: State, array: &[u8], serial: &[u8], code: u8) -> Stepped
     ensures { result ≡ live f serial.now array.now state (code / 2) (eqb (code % 2) 1) }
 {
@@ -178,6 +180,7 @@ fn dark(state: State, code: u8) -> Stepped
 }
 
 // An event that passed the checks 4, 2, 15 and 5. It is pure, and called at one place, the loop over events.
+#[tactic(auto, unfolding(crate::specs::Step::step))]
 pub fn step(f: Figure, state: State, array: &[u8], serial: &[u8], code: u8) -> Stepped
     ensures { result ≡ step f serial.now array.now state code }
 {
@@ -189,6 +192,7 @@ pub fn step(f: Figure, state: State, array: &[u8], serial: &[u8], code: u8) -> S
 }
 
 // The byte that a note says is stored.
+#[tactic(auto, unfolding(crate::specs::Step::written))]
 pub fn store(array: &mut [u8], note: Note)
     ensures { array.new ≡ written note array.old }
 {

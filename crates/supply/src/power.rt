@@ -15,6 +15,7 @@ pub struct Powered {
     pub state: State,
 }
 
+#[tactic(auto, unfolding(crate::specs::Power::fill_refusal))]
 fn fill_refusal(part: u64, len: usize) -> u8
     ensures { result ≡ fill_refusal part len }
 {
@@ -27,6 +28,7 @@ fn fill_refusal(part: u64, len: usize) -> u8
     0
 }
 
+#[tactic(auto, unfolding(crate::specs::Power::power_refusal))]
 fn power_refusal(part: u64, kept: u64, len: usize) -> u8
     ensures { result ≡ power_refusal part kept len }
 {
@@ -42,6 +44,7 @@ fn power_refusal(part: u64, kept: u64, len: usize) -> u8
 }
 
 // Power-up of a part with its kept bits, over the array that is lent to it.
+#[tactic(auto, unfolding(crate::specs::Power::power_up))]
 pub fn power_up(part: u64, kept: u64, array: &[u8]) -> Powered
     ensures { result ≡ power_up part kept array.now }
 {
@@ -66,6 +69,7 @@ fn set_all(array: &mut [u8], byte: u8)
 }
 
 // A fresh array for a caller who "says so with a fill byte". It answers the refusal, or 0.
+#[tactic(auto, unfolding(crate::specs::Power::filled))]
 pub fn fill_with(part: u64, array: &mut [u8], byte: u8) -> u8
     ensures { FillPromise part byte array.old result array.new }
 {
