@@ -37,6 +37,7 @@ pub enum Checked {
 }
 
 // "says yes exactly when the long division gives a serial number's check byte"
+#[tactic(auto, unfolding(crate::specs::Table::table))]
 pub fn check(serial: &[u8]) -> Checked
     ensures { CheckPromise serial.now result }
 {

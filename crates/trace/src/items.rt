@@ -11,6 +11,7 @@ pub const LAST_BYTE: u64 = 267;
 const BYTE_EVENTS: u64 = 24;
 
 // Event number `k` of a data byte. Bit 7 is sent first.
+#[tactic(auto, using(crate::proofs::Pulses::si_beat, crate::proofs::Pulses::up_beat, crate::proofs::Pulses::down_beat))]
 fn data_event(byte: u64, k: u64) -> u64
     requires { k < byte_events }
     ensures { result ≡ get_or (clocked byte) k 0 }
@@ -34,6 +35,7 @@ pub fn pulses_of(item: u64) -> u64
 }
 
 // How many events an item is that is an event or a data byte.
+#[tactic(auto, unfolding(crate::specs::Items::clocked))]
 pub fn events_of(item: u64) -> u64
     ensures { result ≡ length (short_events item) }
 {
@@ -41,6 +43,7 @@ pub fn events_of(item: u64) -> u64
 }
 
 // Event number `k` of such an item; 0 where it has no such event.
+#[tactic(auto, using(crate::proofs::Pulses::past, crate::proofs::Pulses::sole, crate::proofs::Pulses::within, crate::proofs::Pulses::of_byte))]
 pub fn event_of(item: u64, k: u64) -> u64
     ensures { result ≡ get_or (short_events item) k 0 }
 {

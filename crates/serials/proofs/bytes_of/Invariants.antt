@@ -1,0 +1,9 @@
+-- The place goes forward, and stays in the bytes, which keep their length.
+use Rattle.std.proofs.Common.{◌-◌, ◌≤◌, length}
+use Rattle.serials.proofs.bytes_of.Given as goal
+
+abbrev pub invariant-loop-n : goal.invariant-loop-n
+invariant-loop-n l = l.n ≤ length l.bytes
+
+abbrev pub decreases-loop-n : goal.decreases-loop-n
+decreases-loop-n l = length l.bytes - l.n
