@@ -1,0 +1,20 @@
+-- Nothing is refused of the state and what is lent with it, so the code's test decides; a code that passes it is below 12.
+use mathlib.Core.Path.{sym, ◌∙◌}
+use native.Mathlib.Nat.{lt_of_lt_of_le}
+use lib.Dec.{lit≤}
+use borrow.Author.Tests.{le-leb, lt-leb}
+use Rattle.chip.specs.EventLaws.{tried_known, tried_unknown}
+use borrow.Author.Rules.{rules}
+use Rattle.chip.proofs.run.attempt.Goals as goal
+
+pub returns-then-code-ge12 : goal.returns-then-code-ge12
+returns-then-code-ge12 c =
+    let a = c in
+    c.refuse.ensures
+    ∙ sym (tried_unknown a.args.f a.args.serial.now a.args.array.now a.args.state a.args.code a.requires.serial_value (le-leb _ _ c.if-code-ge12.true))
+
+pub returns-else-code-ge12 : goal.returns-else-code-ge12
+returns-else-code-ge12 c =
+    let a = c in
+    c.step.ensures
+    ∙ sym (tried_known a.args.f a.args.serial.now a.args.array.now a.args.state a.args.code a.requires.serial_value (lt-leb _ _ c.if-code-ge12.false))

@@ -1,0 +1,24 @@
+-- Wherever the loop is, the codes that are left lead from there to where all of them lead from the start. The row stays, since
+-- the part does, and nothing comes to be refused of the state and what is lent with it, since an event keeps them fit.
+use mathlib.Core.Path.{◌≡◌, refl, ◌∙◌}
+use Prim.Native.Nat.{◌-◌, ◌≤◌, zero-le}
+use native.Mathlib.Nat.{le_antisymm}
+use native.Mathlib.Omega.{arith}
+use lib.ListN.{length, drop}
+use Rattle.parts.specs.Figures.{figure_of}
+use Rattle.chip.specs.Event.{lend_refusal}
+use Rattle.chip.specs.List.{course, set_all_out}
+use Rattle.chip.specs.ListLaws.{row_stays, lend_stays, loop_goes, loop_stops, loop_ends}
+use borrow.Author.Rules.{rules}
+use Rattle.chip.proofs.run.go.Given as goal
+
+abbrev pub invariant-loop-i : goal.invariant-loop-i
+invariant-loop-i l =
+    (l.i ≤ length l.codes) × (length l.array ≡ length l.initial.array) × (length l.levels ≡ length l.initial.levels)
+    × (l.f ≡ figure_of l.state.part)
+    × (lend_refusal l.state (length l.array) (length l.serial) ≡ 0)
+    × (course l.serial (record { refusal = 0; count = l.i; note = l.note; state = l.state; array = l.array; levels = l.levels }) (drop l.i l.codes)
+    ≡ course l.serial (set_all_out 0 l.initial.state l.initial.array l.initial.levels) l.codes)
+
+abbrev pub decreases-loop-i : goal.decreases-loop-i
+decreases-loop-i l = length l.codes - l.i
