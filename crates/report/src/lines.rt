@@ -13,6 +13,7 @@ use crate::text::{put, put_decimal, put_hex, put_hexes};
 pub const LINE: usize = 256;
 
 // "op-code in hex, or "--" under eight clocks", and in a select that is ignored.
+#[tactic(auto, unfolding(crate::specs::Lines::code_text))]
 fn put_code(out: &mut [u8; LINE], at: usize, ignored: bool, clocks: u64, code: u8) -> usize
     requires { at + 2 ≤ line_room }
     ensures value { result ≡ at + 2 }
@@ -25,6 +26,7 @@ fn put_code(out: &mut [u8; LINE], at: usize, ignored: bool, clocks: u64, code: u
 }
 
 // The whole bytes of SO, the first of which the buffer has.
+#[tactic(auto, unfolding(crate::specs::Lines::shown_text))]
 fn put_shown(out: &mut [u8; LINE], at: usize, shown: &[u8], whole: u64) -> usize
     requires most_shown_bound { at + (2 * most_shown + 1) ≤ line_room }
     requires shown_len { length shown.now ≡ most_shown }
@@ -53,6 +55,7 @@ fn put_numbered(out: &mut [u8; LINE], at: usize, word: &[u8], n: u64) -> usize
 }
 
 // "Line 1: part, size, kept bits in hex".
+#[tactic(auto, unfolding(crate::specs::Lines::part_line))]
 pub fn part_line(out: &mut [u8; LINE], part: u64, size: u64, kept: u8) -> usize
     ensures prefix_len { IsPrefixLen result out.new }
     ensures value { result ≡ length (part_line part size kept) }
@@ -66,6 +69,7 @@ pub fn part_line(out: &mut [u8; LINE], part: u64, size: u64, kept: u8) -> usize
 }
 
 // The op-code, seen rises and stored notes of a select.
+#[tactic(auto, unfolding(crate::specs::Lines::counts_text))]
 fn put_counts(out: &mut [u8; LINE], at: usize, told: Record) -> usize
     requires { at + 62 ≤ line_room }
     ensures upper_bound { result ≤ at + 62 }
@@ -78,6 +82,7 @@ fn put_counts(out: &mut [u8; LINE], at: usize, told: Record) -> usize
 }
 
 // A select's line, by its number, its record and the first bytes of SO.
+#[tactic(auto, unfolding(crate::specs::Lines::select_line))]
 pub fn select_line(out: &mut [u8; LINE], number: u64, told: Record, shown: &[u8; SHOWN]) -> usize
     ensures prefix_len { IsPrefixLen result out.new }
     ensures value { result ≡ length (select_line number told shown.now) }
@@ -91,6 +96,7 @@ pub fn select_line(out: &mut [u8; LINE], number: u64, told: Record, shown: &[u8;
 }
 
 // "Last line: kept bits in hex (00 before power-up), latch (0 before power-up), refusal."
+#[tactic(auto, unfolding(crate::specs::Lines::end_line))]
 pub fn end_line(out: &mut [u8; LINE], kept: u8, latch: bool, refusal: u8) -> usize
     ensures prefix_len { IsPrefixLen result out.new }
     ensures value { result ≡ length (end_line kept latch refusal) }

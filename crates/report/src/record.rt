@@ -26,6 +26,7 @@ pub struct Record {
 }
 
 // One more. A count stops at the largest number that it can hold; no trace comes near it.
+#[tactic(auto, unfolding(crate::specs::Record::counted))]
 pub fn count(n: u64) -> u64
     ensures { result ≡ counted n }
 {
@@ -33,6 +34,7 @@ pub fn count(n: u64) -> u64
 }
 
 // SO's bits with one more, where SO is driven.
+#[tactic(auto, unfolding(crate::specs::Record::sampled))]
 fn sample(bits: u16, so: Level) -> Taken
     ensures { result ≡ sampled bits so }
 {
@@ -44,6 +46,7 @@ fn sample(bits: u16, so: Level) -> Taken
 }
 
 // The op-code's bits with one more; the first eight rises have them.
+#[tactic(auto, unfolding(crate::specs::Record::code_after))]
 fn code_after(clocks: u64, code: u8, si: bool) -> u8
     ensures { result ≡ code_after clocks code si }
 {
@@ -78,6 +81,7 @@ impl Record {
     }
 
     // After a seen rise, with SI and SO as they stood before it.
+    #[tactic(auto, unfolding(crate::specs::Record::risen, crate::specs::Record::shown_after))]
     pub fn rise(self, si: bool, so: Level, shown: &mut [u8; SHOWN]) -> Record
         ensures value { result ≡ risen self si so }
         ensures shown_after { shown.new ≡ shown_after shown.old self so }
@@ -106,6 +110,7 @@ impl Record {
     }
 
     // After a note.
+    #[tactic(auto, unfolding(crate::specs::Record::noted))]
     pub fn note(self, note: Note) -> Record
         ensures { result ≡ noted self note }
     {

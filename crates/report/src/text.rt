@@ -12,6 +12,7 @@ const DIGITS: usize = 20;
 const CAPITALS: [u8; 16] = *b"0123456789ABCDEF";
 
 // The capital digit of a number below 16.
+#[tactic(auto, unfolding(crate::specs::Text::capitals))]
 fn capital(n: usize) -> u8
     requires { n < 16 }
     ensures { result ≡ get_or capitals n 0 }
@@ -33,6 +34,7 @@ pub(crate) fn put(out: &mut [u8], at: usize, text: &[u8]) -> usize
 }
 
 // The two digits of a byte.
+#[tactic(auto, unfolding(crate::specs::Text::hex))]
 pub(crate) fn put_hex(out: &mut [u8; LINE], at: usize, byte: u8) -> usize
     requires { at + 2 ≤ line_room }
     ensures value { result ≡ at + 2 }
@@ -59,6 +61,7 @@ pub(crate) fn put_hexes(out: &mut [u8; LINE], at: usize, bytes: &[u8]) -> usize
 }
 
 // "other numbers are decimal".
+#[tactic(auto, unfolding(crate::specs::Text::decimal))]
 pub(crate) fn put_decimal(out: &mut [u8; LINE], at: usize, n: u64) -> usize
     requires { at + most_digits ≤ line_room }
     ensures upper_bound { result ≤ at + most_digits }

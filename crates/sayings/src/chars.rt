@@ -12,6 +12,7 @@ pub enum Kind {
 }
 
 // "words are parted by spaces and tabs (a carriage return counts as a space)", a line's end and a comment.
+#[tactic(auto, unfolding(crate::specs::Characters::kind_of))]
 pub fn kind_of(c: u8) -> Kind
     ensures { result ≡ kind_of c }
 {
@@ -28,6 +29,7 @@ pub fn kind_of(c: u8) -> Kind
 }
 
 // The small letter of a capital; any other character as it is.
+#[tactic(auto, unfolding(crate::specs::Characters::lowered))]
 pub(crate) fn lower(c: u8) -> u8
     ensures { result ≡ lowered c }
 {
@@ -38,6 +40,7 @@ pub(crate) fn lower(c: u8) -> u8
 }
 
 // The value of a hex digit, capital or small, and 16 of any other character.
+#[tactic(auto, unfolding(crate::specs::Characters::digit_of))]
 pub fn digit(c: u8) -> u8
     ensures { result ≡ digit_of c }
 {

@@ -57,6 +57,7 @@ pub enum Said {
 }
 
 // The number of the pin that a word names, and 6 where it names none.
+#[tactic(auto, using(crate::proofs::NameTurns::pin_cs, crate::proofs::NameTurns::pin_sck, crate::proofs::NameTurns::pin_si, crate::proofs::NameTurns::pin_hold, crate::proofs::NameTurns::pin_wp, crate::proofs::NameTurns::pin_vdd, crate::proofs::NameTurns::pin_none))]
 fn pin_of(word: &[u8]) -> u8
     ensures { result ≡ pin_of word.now }
 {
@@ -82,6 +83,7 @@ fn pin_of(word: &[u8]) -> u8
 }
 
 // A word that names power or asks for a number or bits.
+#[tactic(auto, using(crate::proofs::NameTurns::said_cut, crate::proofs::NameTurns::said_power, crate::proofs::NameTurns::said_idle_lem, crate::proofs::NameTurns::said_held_lem, crate::proofs::NameTurns::said_bits_lem, crate::proofs::NameTurns::said_item_lem, crate::proofs::NameTurns::said_none))]
 fn hear_verb(word: &[u8]) -> Said
     ensures { result ≡ said_verb word.now }
 {
@@ -123,6 +125,7 @@ fn then(next: Next) -> Said
 }
 
 // Any word of a line but the first: a byte, a pin, or one of the other words.
+#[tactic(auto, unfolding(crate::specs::Says::said_any))]
 fn hear_any(word: &[u8]) -> Said
     ensures { result ≡ said_any word.now }
 {
@@ -140,6 +143,7 @@ fn hear_any(word: &[u8]) -> Said
 }
 
 // `part`, and `kept`.
+#[tactic(auto, unfolding(crate::specs::Says::said_name))]
 fn hear_name(word: &[u8], name: &[u8], next: Next) -> Said
     ensures { result ≡ said_name word.now name.now next }
 {
@@ -150,6 +154,7 @@ fn hear_name(word: &[u8], name: &[u8], next: Next) -> Said
 }
 
 // The part's number.
+#[tactic(auto, unfolding(crate::specs::Says::said_part))]
 fn hear_part(word: &[u8]) -> Said
     ensures { result ≡ said_part word.now }
 {
@@ -167,6 +172,7 @@ fn hear_part(word: &[u8]) -> Said
 }
 
 // The kept bits.
+#[tactic(auto, unfolding(crate::specs::Says::said_kept))]
 fn hear_kept(word: &[u8]) -> Said
     ensures { result ≡ said_kept word.now }
 {
@@ -180,6 +186,7 @@ fn hear_kept(word: &[u8]) -> Said
 }
 
 // The level of a pin: its event. No other word asks for a level.
+#[tactic(auto, unfolding(crate::specs::Says::said_level))]
 fn hear_level(word: &[u8], pin: u8) -> Said
     ensures { result ≡ said_level word.now pin }
 {
@@ -197,6 +204,7 @@ fn hear_level(word: &[u8], pin: u8) -> Said
 }
 
 // A number of pulses: one at least, and no more than an item can say.
+#[tactic(auto, unfolding(crate::specs::Says::pulses_of))]
 fn pulses_of(word: &[u8]) -> Numeral
     ensures { result ≡ pulses_of word.now }
 {
@@ -210,6 +218,7 @@ fn pulses_of(word: &[u8]) -> Numeral
     }
 }
 
+#[tactic(auto, unfolding(crate::specs::Says::said_idle))]
 fn hear_idle(word: &[u8]) -> Said
     ensures { result ≡ said_idle word.now }
 {
@@ -219,6 +228,7 @@ fn hear_idle(word: &[u8]) -> Said
     }
 }
 
+#[tactic(auto, unfolding(crate::specs::Says::said_held))]
 fn hear_held(word: &[u8]) -> Said
     ensures { result ≡ said_held word.now }
 {
@@ -228,6 +238,7 @@ fn hear_held(word: &[u8]) -> Said
     }
 }
 
+#[tactic(auto, unfolding(crate::specs::Says::said_bits))]
 fn hear_bits(word: &[u8]) -> Said
     ensures { result ≡ said_bits word.now }
 {
@@ -237,6 +248,7 @@ fn hear_bits(word: &[u8]) -> Said
     Said::Wrong
 }
 
+#[tactic(auto, unfolding(crate::specs::Says::said_item))]
 fn hear_item(word: &[u8]) -> Said
     ensures { result ≡ said_item word.now }
 {
@@ -247,6 +259,7 @@ fn hear_item(word: &[u8]) -> Said
 }
 
 // What a word says where `next` may stand.
+#[tactic(auto, unfolding(crate::specs::Says::said_word))]
 pub fn hear(next: Next, word: &[u8]) -> Said
     ensures { result ≡ said_word next word.now }
 {
@@ -267,6 +280,7 @@ pub fn hear(next: Next, word: &[u8]) -> Said
 
 // What a line's end says: no line ends where a word is still asked for. The kept bits may be left out and are then 0;
 // a select of the line is closed.
+#[tactic(auto, unfolding(crate::specs::Says::said_end))]
 pub fn hear_end(selected: bool, next: Next) -> Said
     ensures { result ≡ said_end selected next }
 {

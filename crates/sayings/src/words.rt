@@ -13,6 +13,7 @@ pub enum Numeral {
 }
 
 // Whether a word is a name, "upper and lower case alike".
+#[tactic(auto, using(crate::proofs::WordTurns::same_length, crate::proofs::WordTurns::same_stop, crate::proofs::WordTurns::same_turn, crate::proofs::WordTurns::same_end), unfolding(crate::specs::Words::named))]
 pub(crate) fn same(word: &[u8], name: &[u8]) -> bool
     ensures { result ≡ named word.now name.now }
 {
@@ -37,6 +38,7 @@ pub fn wide(x: u8) -> u64
 }
 
 // The byte of "two hex digits".
+#[tactic(auto, unfolding(crate::specs::Words::byte_of))]
 pub(crate) fn byte_of(word: &[u8]) -> Numeral
     ensures { result ≡ byte_of word.now }
 {
@@ -53,6 +55,7 @@ pub(crate) fn byte_of(word: &[u8]) -> Numeral
 }
 
 // The number of decimal digits, which is a trace number.
+#[tactic(auto, using(crate::proofs::WordTurns::number_stop, crate::proofs::WordTurns::number_large, crate::proofs::WordTurns::number_turn, crate::proofs::WordTurns::number_end), unfolding(crate::specs::Words::number_of))]
 pub(crate) fn number_of(word: &[u8]) -> Numeral
     ensures { result ≡ number_of word.now }
 {
@@ -74,6 +77,7 @@ pub(crate) fn number_of(word: &[u8]) -> Numeral
 }
 
 // Whether each character is a bit.
+#[tactic(auto, using(crate::proofs::WordTurns::bits_stop, crate::proofs::WordTurns::bits_turn, crate::proofs::WordTurns::bits_end), unfolding(crate::specs::Words::all_bits))]
 pub(crate) fn all_bits(word: &[u8]) -> bool
     ensures { result ≡ all_bits word.now }
 {

@@ -20,6 +20,7 @@ pub enum Ended {
 }
 
 // The character at a place; behind the last one the text ends as a line does.
+#[tactic(auto, unfolding(crate::specs::Marks::char_at))]
 pub(crate) fn char_at(text: &[u8], i: usize) -> u8
     ensures { result ≡ char_at text.now i }
 {

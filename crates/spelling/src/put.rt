@@ -24,6 +24,7 @@ pub enum Laid {
 }
 
 // One item.
+#[tactic(auto, using(crate::proofs::LayTurns::placed_lays, crate::proofs::LayTurns::refused_lays))]
 fn put_item(out: &mut [u8], at: usize, item: u64) -> Laid
     requires { item ≤ largest }
     ensures { Lays out.old at (form item) out.new result }
@@ -35,6 +36,7 @@ fn put_item(out: &mut [u8], at: usize, item: u64) -> Laid
 }
 
 // Items.
+#[tactic(auto, using(crate::proofs::LayTurns::start, crate::proofs::LayTurns::small_drop, crate::proofs::LayTurns::item_more, crate::proofs::LayTurns::item_stop, crate::proofs::LayTurns::items_done))]
 fn put_items(out: &mut [u8], at: usize, items: &[u64]) -> Laid
     requires { Small items.now }
     ensures { Lays out.old at (forms items.now) out.new result }
@@ -55,6 +57,7 @@ fn put_items(out: &mut [u8], at: usize, items: &[u64]) -> Laid
 }
 
 // "single bits, each SI, SCK up, SCK down".
+#[tactic(auto, using(crate::proofs::LayTurns::start, crate::proofs::LayTurns::bit_more, crate::proofs::LayTurns::bit_stop, crate::proofs::LayTurns::bits_done))]
 fn put_bits(out: &mut [u8], at: usize, word: &[u8]) -> Laid
     ensures { Lays out.old at (forms (bit_items word.now)) out.new result }
 {
@@ -86,6 +89,7 @@ fn put_byte(out: &mut [u8], at: usize, selected: bool, byte: u64) -> Laid
 }
 
 // What is said, as items.
+#[tactic(auto, using(crate::proofs::LayTurns::none))]
 pub(crate) fn put_said(out: &mut [u8], at: usize, selected: bool, word: &[u8], said: Said) -> Laid
     requires { Fits said }
     ensures { Lays out.old at (forms (items_of selected word.now said)) out.new result }

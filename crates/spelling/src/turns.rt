@@ -70,6 +70,7 @@ fn is_wrong(said: Said) -> bool
 }
 
 // Puts the items of what is said behind the trace.
+#[tactic(auto, using(crate::proofs::MarkTurns::act_wrong, crate::proofs::MarkTurns::act_full, crate::proofs::MarkTurns::act_on))]
 fn act(out: &mut [u8], here: Here, word: &[u8], said: Said) -> Step
     requires { Fits said }
     ensures { Acts out.old here word.now said out.new result }
@@ -100,6 +101,7 @@ fn turn_of(step: Step, place: usize, next: Next) -> Turn
 }
 
 // A word of the text.
+#[tactic(auto, using(crate::proofs::MarkTurns::word_taken))]
 fn take_word(text: &[u8], from: usize, end: usize, here: Here, out: &mut [u8]) -> Turn
     requires { (from ≤ end) × (end ≤ length text.now) }
     ensures { Follows text.now out.old here (word from end ∷ []) out.new result }
@@ -112,6 +114,7 @@ fn take_word(text: &[u8], from: usize, end: usize, here: Here, out: &mut [u8]) -
 }
 
 // The end of what a line says.
+#[tactic(auto, using(crate::proofs::MarkTurns::end_taken))]
 fn take_end(text: &[u8], i: usize, here: Here, out: &mut [u8]) -> Turn
     ensures { Follows text.now out.old here (line_end i ∷ []) out.new result }
 {
@@ -122,6 +125,7 @@ fn take_end(text: &[u8], i: usize, here: Here, out: &mut [u8]) -> Turn
 }
 
 // The end of a line, where a character ends one.
+#[tactic(auto, using(crate::proofs::MarkTurns::none_taken))]
 fn turn_line(text: &[u8], i: usize, ends: bool, here: Here, out: &mut [u8]) -> Turn
     ensures { Follows text.now out.old here (line_marks ends i) out.new result }
 {
@@ -132,6 +136,7 @@ fn turn_line(text: &[u8], i: usize, ends: bool, here: Here, out: &mut [u8]) -> T
 }
 
 // The word and the line that a character ends.
+#[tactic(auto, using(crate::proofs::MarkTurns::both_taken, crate::proofs::MarkTurns::wrong_taken, crate::proofs::MarkTurns::full_taken))]
 fn take_char(text: &[u8], i: usize, ended: Ended, ends: bool, here: Here, out: &mut [u8]) -> Turn
     requires { EndedFits ended i × (i ≤ length text.now) }
     ensures { Follows text.now out.old here (word_marks ended i ++ line_marks ends i) out.new result }
@@ -150,6 +155,7 @@ fn take_char(text: &[u8], i: usize, ended: Ended, ends: bool, here: Here, out: &
 }
 
 // Whether a text may end here.
+#[tactic(auto, unfolding(crate::specs::Meaning::ready))]
 fn is_ready(next: Next) -> bool
     ensures { result ≡ ready next }
 {
@@ -183,6 +189,7 @@ fn finish(here: Here, end: usize) -> Turn
 }
 
 // The whole text, character by character; its end ends its last line. Where it is wrong, the slice is of no use.
+#[tactic(auto, using(crate::proofs::TextTurns::ended_fits, crate::proofs::TextTurns::mode_fits, crate::proofs::TextTurns::char_on, crate::proofs::TextTurns::char_wrong, crate::proofs::TextTurns::char_full, crate::proofs::TextTurns::text_end, crate::proofs::TextTurns::text_start))]
 pub(crate) fn pass(text: &[u8], out: &mut [u8]) -> Turn
     requires { length text.now ≤ longest }
     ensures { passed result out.new ≡ wholly text.now out.old }

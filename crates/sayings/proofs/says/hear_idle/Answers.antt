@@ -1,0 +1,7 @@
+-- By whether the word is a number of pulses; then the item is a trace number.
+use Rattle.std.proofs.Common.{arith}
+use Rattle.sayings.specs.SaysLaws.{bounded, pulses_fit}
+use Rattle.sayings.proofs.says.hear_idle.Goals as goal
+
+pub overflow_add-n : goal.overflow_add-n
+overflow_add-n c = let few = bounded c.pulses_of.ensures c.in-Is.is (pulses_fit _) in omega arith
