@@ -55,6 +55,7 @@ fn lead_at(trace: &[u8], at: usize) -> Lead
 }
 
 // The part's number, then the kept bits'. The first one's refusal comes first.
+#[tactic(auto, unfolding(crate::specs::Head::head_of))]
 pub fn head_of(trace: &[u8]) -> Head
     ensures { result ≡ head_of trace.now }
 {

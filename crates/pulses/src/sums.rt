@@ -39,6 +39,7 @@ fn has_room(count: u64, more: u64) -> bool
 }
 
 // Whether the op-code is whole and no count stops within so many pulses.
+#[tactic(auto, unfolding(crate::specs::Sums::counts_on))]
 pub(crate) fn counts_on(told: Record, pulses: u64) -> bool
     ensures { result ≡ counts_on told pulses }
 {
@@ -49,6 +50,7 @@ pub(crate) fn counts_on(told: Record, pulses: u64) -> bool
 }
 
 // Whether the checks of an event let the chip and the array through, and SCK is low.
+#[tactic(auto, unfolding(crate::specs::Sums::steady))]
 pub(crate) fn is_steady(chip: State, len: usize) -> bool
     ensures { result ≡ steady chip len }
 {
@@ -56,6 +58,7 @@ pub(crate) fn is_steady(chip: State, len: usize) -> bool
 }
 
 // Whether no select sees a pulse.
+#[tactic(auto, unfolding(crate::specs::Sums::idle))]
 pub(crate) fn is_idle(chip: State) -> bool
     ensures { result ≡ idle chip }
 {

@@ -25,6 +25,7 @@ fn still_byte(si: Line) -> u8
 }
 
 // "Who may write": the addresses below this may be stored to.
+#[tactic(auto, unfolding(crate::specs::Sums::allowed))]
 fn store_limit(chip: State) -> usize
     ensures { result ≡ store_limit chip }
 {
@@ -46,6 +47,7 @@ fn least(a: u64, b: u64) -> u64
 }
 
 // How many bytes are stored from place 0 up to a place, which is counted on past the array's size.
+#[tactic(auto, unfolding(crate::specs::Sums::before))]
 fn stored_before(size: u64, limit: u64, place: u64) -> u64
     requires size_nonzero { 0 < size }
     requires limit_le_size { limit ≤ size }
@@ -129,6 +131,7 @@ fn write_bytes(chip: State, array: &mut [u8], at: usize, bytes: u64)
 }
 
 // A WRITE: so many bytes were written, and the next one begins.
+#[tactic(auto, unfolding(crate::specs::Sums::write_on))]
 fn write_on(stand: Stand, size: usize, last: u32, at: usize, bytes: u64) -> Stand
     requires at_lt_size { at < size }
     requires size_bound { size ≤ 0xFFFFFFFF }

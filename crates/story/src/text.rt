@@ -14,6 +14,7 @@ use words::lines::{print_power, print_refused};
 use words::page::print;
 
 // A trace that does not come to power-up.
+#[tactic(auto, unfolding(crate::specs::Story::not_powered))]
 fn print_not_powered(out: &mut [u8], row: u8) -> usize
     ensures { Prints (page_of out.old 0) (not_powered row) (page_of out.new result) }
 {

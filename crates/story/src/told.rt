@@ -21,6 +21,7 @@ use words::dump::print_array;
 use words::lines::{print_end, print_left, print_note, print_refused, print_run, print_shown};
 
 // An accepted event: what changed, what SO showed, and its note.
+#[tactic(auto, unfolding(crate::specs::Scene::accepted_text))]
 fn tell_accepted(
     out: &mut [u8],
     at: usize,
@@ -86,6 +87,7 @@ fn tell_short(turn: Turn, array: &mut [u8], out: &mut [u8], place: usize, item: 
 }
 
 // A run of pulses, by what stood before it and after it.
+#[tactic(auto, unfolding(crate::specs::Scene::pulses_text))]
 fn tell_pulses(
     out: &mut [u8],
     at: usize,
@@ -180,6 +182,7 @@ fn tell_left(out: &mut [u8], at: usize, stand: Stand) -> usize
 }
 
 // The end: a select that is open, kept bits, the latch, and the array.
+#[tactic(auto, unfolding(crate::specs::Story::end_text))]
 pub(crate) fn tell_end(out: &mut [u8], at: usize, stand: Stand, array: &[u8]) -> usize
     ensures { Prints (page_of out.old at) (end_text stand array.now) (page_of out.new result) }
 {

@@ -29,6 +29,7 @@ impl Stand {
     }
 
     // Whether the select that was open is open no more.
+    #[tactic(auto, unfolding(crate::specs::Stand::closes))]
     pub fn closes(self, next: State) -> bool
         ensures { result ≡ closes self.chip next }
     {
@@ -37,6 +38,7 @@ impl Stand {
     }
 
     // The record after an event: a seen rise takes SI and SO as they stood before it.
+    #[tactic(auto, unfolding(crate::specs::Stand::clocked_by, crate::specs::Stand::shown_by))]
     fn clocked(self, code: u64, shown: &mut [u8; SHOWN]) -> Record
         ensures value { result ≡ clocked_by self code }
         ensures shown_after { shown.new ≡ shown_by shown.old self code }
@@ -51,6 +53,7 @@ impl Stand {
     }
 
     // After an accepted event.
+    #[tactic(auto, unfolding(crate::specs::Stand::after))]
     pub fn after(self, code: u64, answer: Answer, shown: &mut [u8; SHOWN]) -> Stand
         ensures value { result ≡ after self code answer }
         ensures shown_after { shown.new ≡ shown_by shown.old self code }

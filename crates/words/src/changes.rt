@@ -25,6 +25,7 @@ fn opens(before: State, after: State) -> bool
 }
 
 // The eighth clock of a select that is not ignored.
+#[tactic(auto, unfolding(crate::specs::Changes::code_comes))]
 fn code_comes(before: Record, after: Record) -> bool
     ensures { result ≡ code_comes before after }
 {
@@ -32,6 +33,7 @@ fn code_comes(before: Record, after: Record) -> bool
 }
 
 // The part falls asleep.
+#[tactic(auto, unfolding(crate::specs::Changes::falls_asleep))]
 fn falls_asleep(before: State, after: State) -> bool
     ensures { result ≡ falls_asleep before after }
 {
@@ -41,6 +43,7 @@ fn falls_asleep(before: State, after: State) -> bool
 }
 
 // Power is back.
+#[tactic(auto, unfolding(crate::specs::Changes::power_back))]
 fn power_back(before: State, after: State) -> bool
     ensures { result ≡ power_back before after }
 {
@@ -99,6 +102,7 @@ fn tell_sleep(out: &mut [u8], at: usize, place: usize, before: State, after: Sta
 }
 
 // What changed.
+#[tactic(auto, unfolding(crate::specs::Changes::changes))]
 pub fn tell_changes(out: &mut [u8], at: usize, place: usize, before: Stand, after: Stand) -> usize
     ensures { Prints (page_of out.old at) (changes place before after) (page_of out.new result) }
 {
@@ -111,6 +115,7 @@ pub fn tell_changes(out: &mut [u8], at: usize, place: usize, before: Stand, afte
     tell_sleep(out, next, place, was, is)
 }
 
+#[tactic(auto, unfolding(crate::specs::Lines::note_text))]
 fn tell_latch(out: &mut [u8], at: usize, place: usize, before: bool, after: bool) -> usize
     ensures { Prints (page_of out.old at) (cond (flips before after) (latch_line place after) []) (page_of out.new result) }
 {
@@ -120,6 +125,7 @@ fn tell_latch(out: &mut [u8], at: usize, place: usize, before: bool, after: bool
     at
 }
 
+#[tactic(auto, unfolding(crate::specs::Lines::note_text))]
 fn tell_kept(out: &mut [u8], at: usize, place: usize, before: u8, after: u8) -> usize
     ensures { Prints (page_of out.old at) (cond (eqb before after) [] (kept_line place after)) (page_of out.new result) }
 {
@@ -130,6 +136,7 @@ fn tell_kept(out: &mut [u8], at: usize, place: usize, before: u8, after: u8) -> 
 }
 
 // The latch and the kept bits, where a run of pulses turned them.
+#[tactic(auto, unfolding(crate::specs::Changes::turned))]
 pub fn tell_turned(out: &mut [u8], at: usize, place: usize, before: State, after: State) -> usize
     ensures { Prints (page_of out.old at) (turned place before after) (page_of out.new result) }
 {
@@ -138,6 +145,7 @@ pub fn tell_turned(out: &mut [u8], at: usize, place: usize, before: State, after
 }
 
 // SO's bits with one more, where SO is driven.
+#[tactic(auto, unfolding(report::specs::Record::sampled))]
 fn sample(bits: u16, so: Level) -> Taken
     ensures { result ≡ sampled bits so }
 {
@@ -149,6 +157,7 @@ fn sample(bits: u16, so: Level) -> Taken
 }
 
 // What SO showed before an event.
+#[tactic(auto, unfolding(crate::specs::Changes::sampled_by))]
 pub fn sampled_by(stand: Stand, code: u64) -> Taken
     ensures { result ≡ sampled_by stand code }
 {

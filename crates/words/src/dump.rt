@@ -26,6 +26,7 @@ fn all_fresh(bytes: &[u8]) -> bool
 }
 
 // A byte in hex, a space before it.
+#[tactic(auto, unfolding(crate::specs::Dump::spaced_byte))]
 fn print_one(out: &mut [u8], at: usize, byte: u8) -> usize
     ensures { Prints (page_of out.old at) (spaced_byte byte) (page_of out.new result) }
 {
@@ -47,6 +48,7 @@ fn print_spaced(out: &mut [u8], at: usize, bytes: &[u8]) -> usize
 }
 
 // A row, where it is not fresh.
+#[tactic(auto, unfolding(crate::specs::Dump::row_text))]
 fn print_row(out: &mut [u8], at: usize, address: usize, row: &[u8]) -> usize
     ensures { Prints (page_of out.old at) (row_text address row.now) (page_of out.new result) }
 {
@@ -75,6 +77,7 @@ fn print_rows(out: &mut [u8], at: usize, array: &[u8], rows: usize) -> usize
 }
 
 // The array.
+#[tactic(auto, unfolding(crate::specs::Dump::array_text))]
 pub fn print_array(out: &mut [u8], at: usize, array: &[u8]) -> usize
     ensures { Prints (page_of out.old at) (array_text array.now) (page_of out.new result) }
 {

@@ -15,6 +15,7 @@ use stages::bits::Taken;
 use turns::stand::Stand;
 
 // A line's beginning.
+#[tactic(auto, unfolding(crate::specs::Lines::begun))]
 fn begin(out: &mut [u8], at: usize, place: usize, words: &[u8]) -> usize
     ensures { Prints (page_of out.old at) (begun place words.now) (page_of out.new result) }
 {
@@ -24,6 +25,7 @@ fn begin(out: &mut [u8], at: usize, place: usize, words: &[u8]) -> usize
 }
 
 // A line of words alone.
+#[tactic(auto, unfolding(crate::specs::Lines::said))]
 pub fn say(out: &mut [u8], at: usize, place: usize, words: &[u8]) -> usize
     ensures { Prints (page_of out.old at) (said place words.now) (page_of out.new result) }
 {
@@ -32,6 +34,7 @@ pub fn say(out: &mut [u8], at: usize, place: usize, words: &[u8]) -> usize
 }
 
 // Power-up.
+#[tactic(auto, unfolding(crate::specs::Lines::power_line))]
 pub fn print_power(out: &mut [u8], at: usize, part: u64, size: u64, kept: u8) -> usize
     ensures { Prints (page_of out.old at) (power_line part size kept) (page_of out.new result) }
 {
@@ -45,6 +48,7 @@ pub fn print_power(out: &mut [u8], at: usize, part: u64, size: u64, kept: u8) ->
 }
 
 // A select opens.
+#[tactic(auto, unfolding(crate::specs::Lines::open_line))]
 pub fn print_open(out: &mut [u8], at: usize, place: usize, stand: Stand) -> usize
     ensures { Prints (page_of out.old at) (open_line place stand) (page_of out.new result) }
 {
@@ -58,6 +62,7 @@ pub fn print_open(out: &mut [u8], at: usize, place: usize, stand: Stand) -> usiz
 }
 
 // An op-code is whole.
+#[tactic(auto, unfolding(crate::specs::Lines::code_line))]
 pub fn print_code(out: &mut [u8], at: usize, place: usize, part: u8, code: u8) -> usize
     ensures { Prints (page_of out.old at) (code_line place part code) (page_of out.new result) }
 {
@@ -72,6 +77,7 @@ pub fn print_code(out: &mut [u8], at: usize, place: usize, part: u8, code: u8) -
 }
 
 // A select ends.
+#[tactic(auto, unfolding(crate::specs::Lines::close_line))]
 pub fn print_close(out: &mut [u8], at: usize, place: usize, stand: Stand) -> usize
     ensures { Prints (page_of out.old at) (close_line place stand) (page_of out.new result) }
 {
@@ -84,6 +90,7 @@ pub fn print_close(out: &mut [u8], at: usize, place: usize, stand: Stand) -> usi
 }
 
 // A byte was stored.
+#[tactic(auto, unfolding(crate::specs::Lines::stored_line))]
 fn print_stored(out: &mut [u8], at: usize, place: usize, address: usize, byte: u8) -> usize
     ensures { Prints (page_of out.old at) (stored_line place address byte) (page_of out.new result) }
 {
@@ -95,6 +102,7 @@ fn print_stored(out: &mut [u8], at: usize, place: usize, address: usize, byte: u
 }
 
 // A byte was held back.
+#[tactic(auto, unfolding(crate::specs::Lines::held_line))]
 fn print_held(out: &mut [u8], at: usize, place: usize, address: usize, reason: Reason) -> usize
     ensures { Prints (page_of out.old at) (held_line place address reason) (page_of out.new result) }
 {
@@ -106,6 +114,7 @@ fn print_held(out: &mut [u8], at: usize, place: usize, address: usize, reason: R
 }
 
 // Kept bits were set.
+#[tactic(auto, unfolding(crate::specs::Lines::kept_line))]
 fn print_kept(out: &mut [u8], at: usize, place: usize, kept: u8) -> usize
     ensures { Prints (page_of out.old at) (kept_line place kept) (page_of out.new result) }
 {
@@ -115,6 +124,7 @@ fn print_kept(out: &mut [u8], at: usize, place: usize, kept: u8) -> usize
 }
 
 // Kept bits were held back.
+#[tactic(auto, unfolding(crate::specs::Lines::kept_held_line))]
 fn print_kept_held(out: &mut [u8], at: usize, place: usize, reason: Reason) -> usize
     ensures { Prints (page_of out.old at) (kept_held_line place reason) (page_of out.new result) }
 {
@@ -124,6 +134,7 @@ fn print_kept_held(out: &mut [u8], at: usize, place: usize, reason: Reason) -> u
 }
 
 // The latch, changed or not.
+#[tactic(auto, unfolding(crate::specs::Lines::latch_line))]
 fn print_latch(out: &mut [u8], at: usize, place: usize, on: bool) -> usize
     ensures { Prints (page_of out.old at) (latch_line place on) (page_of out.new result) }
 {
@@ -134,6 +145,7 @@ fn print_latch(out: &mut [u8], at: usize, place: usize, on: bool) -> usize
 }
 
 // What a note says.
+#[tactic(auto, unfolding(crate::specs::Lines::note_text))]
 pub fn print_note(out: &mut [u8], at: usize, place: usize, note: Note) -> usize
     ensures { Prints (page_of out.old at) (note_text place note) (page_of out.new result) }
 {
@@ -149,6 +161,7 @@ pub fn print_note(out: &mut [u8], at: usize, place: usize, note: Note) -> usize
 }
 
 // A byte that SO showed.
+#[tactic(auto, unfolding(crate::specs::Lines::byte_line))]
 fn print_byte(out: &mut [u8], at: usize, place: usize, byte: u8) -> usize
     ensures { Prints (page_of out.old at) (byte_line place byte) (page_of out.new result) }
 {
@@ -158,6 +171,7 @@ fn print_byte(out: &mut [u8], at: usize, place: usize, byte: u8) -> usize
 }
 
 // What SO showed, where it is a whole byte.
+#[tactic(auto, unfolding(crate::specs::Lines::shown_text))]
 pub fn print_shown(out: &mut [u8], at: usize, place: usize, taken: Taken) -> usize
     ensures { Prints (page_of out.old at) (shown_text place taken) (page_of out.new result) }
 {
@@ -168,6 +182,7 @@ pub fn print_shown(out: &mut [u8], at: usize, place: usize, taken: Taken) -> usi
 }
 
 // A refusal.
+#[tactic(auto, unfolding(crate::specs::Lines::refused_line))]
 pub fn print_refused(out: &mut [u8], at: usize, place: usize, row: u8) -> usize
     ensures { Prints (page_of out.old at) (refused_line place row) (page_of out.new result) }
 {
@@ -185,6 +200,7 @@ fn grown(before: u64, after: u64) -> u64
 }
 
 // A word, and how much a count grew.
+#[tactic(auto, unfolding(crate::specs::Lines::grown_text))]
 fn print_grown(out: &mut [u8], at: usize, word: &[u8], before: u64, after: u64) -> usize
     ensures { Prints (page_of out.old at) (grown_text word.now before after) (page_of out.new result) }
 {
@@ -194,6 +210,7 @@ fn print_grown(out: &mut [u8], at: usize, word: &[u8], before: u64, after: u64) 
 }
 
 // A run of pulses.
+#[tactic(auto, unfolding(crate::specs::Lines::run_line))]
 pub fn print_run(
     out: &mut [u8],
     at: usize,
@@ -213,6 +230,7 @@ pub fn print_run(
 }
 
 // A select that is open at the end.
+#[tactic(auto, unfolding(crate::specs::Lines::left_line))]
 pub fn print_left(out: &mut [u8], at: usize, stand: Stand) -> usize
     ensures { Prints (page_of out.old at) (left_line stand) (page_of out.new result) }
 {
@@ -225,6 +243,7 @@ pub fn print_left(out: &mut [u8], at: usize, stand: Stand) -> usize
 }
 
 // The end.
+#[tactic(auto, unfolding(crate::specs::Lines::end_line))]
 pub fn print_end(out: &mut [u8], at: usize, kept: u8, latch: bool) -> usize
     ensures { Prints (page_of out.old at) (end_line kept latch) (page_of out.new result) }
 {

@@ -29,6 +29,7 @@ pub fn print(out: &mut [u8], at: usize, text: &[u8]) -> usize
 }
 
 // A number in decimal.
+#[tactic(auto, unfolding(report::specs::Text::decimal))]
 pub fn print_decimal(out: &mut [u8], at: usize, n: u64) -> usize
     ensures { Prints (page_of out.old at) (decimal n) (page_of out.new result) }
 {
@@ -38,6 +39,7 @@ pub fn print_decimal(out: &mut [u8], at: usize, n: u64) -> usize
 }
 
 // The capital digit of a number below 16.
+#[tactic(auto, unfolding(report::specs::Text::capitals))]
 fn capital(n: usize) -> u8
     requires { n < 16 }
     ensures { result ≡ get_or capitals n 0 }
@@ -46,6 +48,7 @@ fn capital(n: usize) -> u8
 }
 
 // The two digits of a byte.
+#[tactic(auto, unfolding(report::specs::Text::hex))]
 pub fn print_hex(out: &mut [u8], at: usize, byte: u8) -> usize
     ensures { Prints (page_of out.old at) (hex byte) (page_of out.new result) }
 {
@@ -55,6 +58,7 @@ pub fn print_hex(out: &mut [u8], at: usize, byte: u8) -> usize
 }
 
 // The four digits of an address.
+#[tactic(auto, unfolding(crate::specs::Words::address))]
 pub fn print_address(out: &mut [u8], at: usize, place: usize) -> usize
     ensures { Prints (page_of out.old at) (address place) (page_of out.new result) }
 {

@@ -8,6 +8,7 @@ use parts::commands::Command;
 use parts::guards::Reason;
 
 // Why a byte was held back.
+#[tactic(auto, unfolding(crate::specs::Words::reason_text))]
 pub fn print_reason(out: &mut [u8], at: usize, reason: Reason) -> usize
     ensures { Prints (page_of out.old at) (reason_text reason) (page_of out.new result) }
 {
@@ -19,6 +20,7 @@ pub fn print_reason(out: &mut [u8], at: usize, reason: Reason) -> usize
 }
 
 // A command's name.
+#[tactic(auto, unfolding(crate::specs::Words::command_text))]
 pub fn print_command(out: &mut [u8], at: usize, command: Command) -> usize
     ensures { Prints (page_of out.old at) (command_text command) (page_of out.new result) }
 {
@@ -38,6 +40,7 @@ pub fn print_command(out: &mut [u8], at: usize, command: Command) -> usize
 }
 
 // What a refusal means, and what to do about it.
+#[tactic(auto, unfolding(crate::specs::Words::advice_text))]
 pub fn print_advice(out: &mut [u8], at: usize, row: u8) -> usize
     ensures { Prints (page_of out.old at) (advice_text row) (page_of out.new result) }
 {
