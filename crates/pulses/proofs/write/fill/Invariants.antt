@@ -1,0 +1,18 @@
+-- Wherever the loop is, the bytes that are left lead from there to where all of them lead from the start.
+use mathlib.Core.Path.{◌≡◌, ap, ◌∙◌}
+use Prim.Native.Nat.{ℕ, ◌+◌, ◌%◌, ◌<◌}
+use native.Mathlib.Nat.{mod-lt}
+use native.Mathlib.Omega.{arith}
+use lib.ListN.{length}
+use Rattle.pulses.specs.Sums.{fill_bytes}
+use Rattle.pulses.specs.FillLaws.{put_length, fill_on, fill_over}
+use borrow.Author.Rules.{rules}
+use Rattle.pulses.proofs.write.fill.Given as goal
+
+abbrev pub invariant-loop-left : goal.invariant-loop-left
+invariant-loop-left l =
+    (length l.array ≡ length l.initial.array) × (l.at < length l.initial.array)
+    × (fill_bytes (length l.initial.array) l.limit l.byte l.left l.at l.array ≡ fill_bytes (length l.initial.array) l.limit l.byte l.bytes l.start l.initial.array)
+
+abbrev pub decreases-loop-left : goal.decreases-loop-left
+decreases-loop-left l = l.left
