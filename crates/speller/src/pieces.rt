@@ -20,6 +20,7 @@ pub(crate) fn put(out: &mut [u8], at: usize, text: &[u8]) -> usize
 }
 
 // A text, and a number behind it.
+#[tactic(auto, unfolding(report::specs::Text::decimal))]
 pub(crate) fn put_numbered(out: &mut [u8; LINE], at: usize, text: &[u8], n: u64) -> usize
     requires { at + length text.now + most_digits ≤ line_room }
     ensures upper_bound { result ≤ at + length text.now + most_digits }

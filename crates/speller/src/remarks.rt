@@ -11,6 +11,7 @@ use sayings::says::Next;
 use spelling::spell::{Answer, Place};
 
 // What was expected.
+#[tactic(auto, unfolding(crate::specs::Remarks::expected_text))]
 fn put_expected(out: &mut [u8; LINE], at: usize, expected: Next) -> usize
     requires { at + most_expected ≤ line_room }
     ensures upper_bound { result ≤ at + most_expected }
@@ -44,6 +45,7 @@ fn put_expected(out: &mut [u8; LINE], at: usize, expected: Next) -> usize
 }
 
 // Line and column.
+#[tactic(auto, unfolding(crate::specs::Remarks::place_text))]
 fn put_place(out: &mut [u8; LINE], place: Place) -> usize
     ensures upper_bound { result ≤ most_place }
     ensures puts { Puts out.old 0 (place_text place) out.new result }
@@ -53,6 +55,7 @@ fn put_place(out: &mut [u8; LINE], place: Place) -> usize
 }
 
 // A text that is wrong at a place.
+#[tactic(auto, unfolding(crate::specs::Remarks::wrong_text))]
 fn put_wrong(out: &mut [u8; LINE], place: Place, expected: Next) -> usize
     ensures prefix_len { IsPrefixLen result out.new }
     ensures value { result ≡ length (wrong_text place expected) }
@@ -65,6 +68,7 @@ fn put_wrong(out: &mut [u8; LINE], place: Place, expected: Next) -> usize
 }
 
 // A text whose trace is too long from a place on.
+#[tactic(auto, unfolding(crate::specs::Remarks::full_text))]
 fn put_full(out: &mut [u8; LINE], place: Place) -> usize
     ensures prefix_len { IsPrefixLen result out.new }
     ensures value { result ≡ length (full_text place) }
@@ -79,6 +83,7 @@ fn put_full(out: &mut [u8; LINE], place: Place) -> usize
 }
 
 // The line; none where the text spells a trace.
+#[tactic(auto, unfolding(crate::specs::Remarks::remark_of))]
 pub fn remark(out: &mut [u8; LINE], answer: Answer) -> usize
     ensures prefix_len { IsPrefixLen result out.new }
     ensures value { result ≡ length (remark_of answer) }
