@@ -5,7 +5,6 @@ use mathlib.Core.List.{[]}
 use lib.Seq.{length-take-le}
 use Rattle.parts.specs.FigureLaws.{largest}
 use Rattle.bench.specs.Run.{replayed}
-use Rattle.turns.specs.Page.{page_of}
 use Rattle.bench.proofs.Runs.{replayed_led, replayed_not, whole}
 use borrow.Author.Rules.{rules}
 use Rattle.bench.proofs.run.run_whole.Goals as goal
@@ -23,16 +22,20 @@ pub returns-clause-at_after : goal.returns-clause-at_after
 returns-clause-at_after c = (whole _ _ _ _ _ _ (replayed_led _ _ _ _ _ _ c.head_of-lead.ensures c.if-lead-ne0.false c.figure_of-size.ensures c.run.ensures)).1.1.1
 
 pub returns-then-lead-ne0-clause-refusal_value : goal.returns-then-lead-ne0-clause-refusal_value
-returns-then-lead-ne0-clause-refusal_value c = (whole (replayed c.args.trace.now c.args.shown.now) c.head_of-lead.result.refusal c.new.result [] c.args.shown.now (page_of c.args.out.now 0) (search replayed_not)).0
+returns-then-lead-ne0-clause-refusal_value c =
+    (whole _ _ _ _ _ _ (replayed_not c.args.trace.now c.args.shown.now c.args.out.now _ _ _ c.head_of-lead.ensures c.if-lead-ne0.true c.at_rest.ensures c.new.ensures)).0
 
 pub returns-then-lead-ne0-clause-stand_value : goal.returns-then-lead-ne0-clause-stand_value
-returns-then-lead-ne0-clause-stand_value c = (whole (replayed c.args.trace.now c.args.shown.now) c.head_of-lead.result.refusal c.new.result [] c.args.shown.now (page_of c.args.out.now 0) (search replayed_not)).1.0
+returns-then-lead-ne0-clause-stand_value c =
+    (whole _ _ _ _ _ _ (replayed_not c.args.trace.now c.args.shown.now c.args.out.now _ _ _ c.head_of-lead.ensures c.if-lead-ne0.true c.at_rest.ensures c.new.ensures)).1.0
 
 pub returns-then-lead-ne0-clause-shown_after : goal.returns-then-lead-ne0-clause-shown_after
-returns-then-lead-ne0-clause-shown_after c = (whole (replayed c.args.trace.now c.args.shown.now) c.head_of-lead.result.refusal c.new.result [] c.args.shown.now (page_of c.args.out.now 0) (search replayed_not)).1.1.0
+returns-then-lead-ne0-clause-shown_after c =
+    (whole _ _ _ _ _ _ (replayed_not c.args.trace.now c.args.shown.now c.args.out.now _ _ _ c.head_of-lead.ensures c.if-lead-ne0.true c.at_rest.ensures c.new.ensures)).1.1.0
 
 pub returns-then-lead-ne0-clause-at_after : goal.returns-then-lead-ne0-clause-at_after
-returns-then-lead-ne0-clause-at_after c = (whole (replayed c.args.trace.now c.args.shown.now) c.head_of-lead.result.refusal c.new.result [] c.args.shown.now (page_of c.args.out.now 0) (search replayed_not)).1.1.1
+returns-then-lead-ne0-clause-at_after c =
+    (whole _ _ _ _ _ _ (replayed_not c.args.trace.now c.args.shown.now c.args.out.now _ _ _ c.head_of-lead.ensures c.if-lead-ne0.true c.at_rest.ensures c.new.ensures)).1.1.1
 
 pub slice_bounds-array-end : goal.slice_bounds-array-end
 slice_bounds-array-end c = rw c.figure_of-size.ensures (largest _)
