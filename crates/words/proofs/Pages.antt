@@ -1,8 +1,5 @@
 -- Texts printed one behind the other are one text. Assumes nothing.
-use mathlib.Core.Path.{◌≡◌, sym, ap, ◌∙◌}
-use mathlib.Core.Bool.{Bool, true, false, cond}
-use mathlib.Core.List.{List, [], ◌++◌}
-use Prim.Native.Nat.{ℕ}
+use Rattle.std.proofs.Common.{◌≡◌, sym, ap, ◌∙◌, Bool, true, false, cond, List, [], ◌++◌, ℕ}
 use Rattle.turns.specs.Page.{Page, printed}
 use Rattle.turns.specs.PrintLaws.{print_none, print_then, print_twice}
 use Rattle.words.specs.Prints.{Prints}

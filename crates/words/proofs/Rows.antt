@@ -1,13 +1,5 @@
 -- Bytes one by one: those that are left of a row, of the rows, and of a test over all of them. Assumes nothing.
-use mathlib.Core.Path.{◌≡◌}
-use mathlib.Core.Bool.{true, false}
-use mathlib.Core.List.{List, [], ◌++◌}
-use Prim.Native.Nat.{ℕ, suc, ◌+◌, ◌-◌, ◌*◌, ◌<◌, ◌≤◌}
-use native.Mathlib.Numerals.{add-one}
-use native.Mathlib.Omega.{arith}
-use borrow.Author.Tests.{eq-eqb, ne_eqb}
-use lib.ListN.{length, get_or, take, drop, drop_of_length-le}
-use lib.Seq.{drop-cons}
+use Rattle.std.proofs.Common.{◌≡◌, true, false, List, [], ◌++◌, ℕ, suc, ◌+◌, ◌-◌, ◌*◌, ◌<◌, ◌≤◌, add-one, arith, eq-eqb, ne_eqb, length, get_or, take, drop, drop_of_length-le, drop-cons}
 use Rattle.words.specs.Dump.{row_bytes, all_fresh, spaced_byte, spaced, row_text, rows_text}
 
 module _ (bs : List ℕ) (i : ℕ) where
