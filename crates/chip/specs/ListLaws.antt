@@ -1,7 +1,7 @@
 -- A list of events turn by turn: how one more code moves its course, and what a refused one leaves. Assumes nothing.
 use Rattle.std.specs.Prelude.{ℕ, ◌+◌, ◌<◌, ◌≤◌, ◌≡◌, Bool, true, false, cond, eqb, ltb, length, set, drop, get_or}
 use Rattle.std.proofs.Math.Path.{refl, sym, ap}
-use Rattle.std.proofs.Common.{◌∙◌, add-one, arith, drop-cons}
+use Rattle.std.proofs.Common.{◌∙◌, add-one, drop-cons}
 use mathlib.Core.List.{List, [], ◌∷◌}
 use borrow.Author.Tests.{eq-eqb, ne_eqb, eqb-true, eqb-false, ltb-false, le-ltb}
 use Rattle.std.proofs.Math.Seq.{drop-length}

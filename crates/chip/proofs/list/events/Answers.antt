@@ -3,7 +3,6 @@ use mathlib.Core.Path.{◌≡◌, ap}
 use Rattle.chip.specs.List.{Course}
 use Rattle.chip.specs.ListLaws.{call_passed, call_runs, call_stops}
 use Rattle.chip.specs.ListRuns.{Same}
-use borrow.Author.Rules.{rules}
 use Rattle.chip.proofs.list.events.Goals as goal
 
 fields : {c d : Course} → c ≡ d → Same c d

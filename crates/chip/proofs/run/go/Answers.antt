@@ -1,13 +1,8 @@
 -- Wherever the loop is, the codes that are left lead from there to where all of them lead from the start. The row stays, since
 -- the part does, and nothing comes to be refused of the state and what is lent with it, since an event keeps them fit.
-use mathlib.Core.Path.{◌≡◌, refl, ◌∙◌}
-use Prim.Native.Nat.{◌-◌, ◌≤◌, zero-le}
+use mathlib.Core.Path.{◌∙◌}
 use native.Mathlib.Nat.{le_antisymm}
 use native.Mathlib.Omega.{arith}
-use lib.ListN.{length, drop}
-use Rattle.parts.specs.Figures.{figure_of}
-use Rattle.chip.specs.Event.{lend_refusal}
-use Rattle.chip.specs.List.{course, set_all_out}
 use Rattle.chip.specs.ListLaws.{row_stays, lend_stays, loop_goes, loop_stops, loop_ends}
 use borrow.Author.Rules.{rules}
 use Rattle.chip.proofs.run.go.Goals as goal

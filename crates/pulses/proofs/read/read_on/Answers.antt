@@ -1,6 +1,5 @@
 -- The bytes are counted, and the next one is shown as at a READ's first fall.
 use Rattle.pulses.specs.SkipLaws.{read_is}
-use borrow.Author.Rules.{rules}
 use Rattle.pulses.proofs.read.read_on.Goals as goal
 
 pub returns : goal.returns

@@ -1,7 +1,6 @@
 -- Where a test says no, nothing is skipped; else whole bytes are.
 use mathlib.Core.Path.{refl}
-use Rattle.pulses.specs.SkipLaws.{skip_none, read_asks, read_out}
-use borrow.Author.Rules.{rules}
+use Rattle.pulses.specs.SkipLaws.{read_asks, read_out}
 use Rattle.pulses.proofs.read.skip_read.Goals as goal
 
 pub read_on-requires-clause-at_in_bounds : goal.read_on-requires-clause-at_in_bounds

@@ -1,6 +1,5 @@
 -- SCK up, then down; what is refused ends it.
 use Rattle.pulses.specs.RunLaws.{pulse_stays, pulse_stops, pulse_ends}
-use borrow.Author.Rules.{rules}
 use Rattle.pulses.proofs.run.take_pulse.Goals as goal
 
 pub returns : goal.returns

@@ -1,12 +1,10 @@
 -- Wherever the loop is, the pulses that are left lead from there to where all of them lead from the start: a skip and a pulse
 -- leave that as it is.
-use mathlib.Core.Path.{◌≡◌, ◌∙◌}
+use mathlib.Core.Path.{◌≡◌}
 use lib.ListN.{length}
 use Rattle.turns.specs.Bench.{bench_of, on_page}
 use Rattle.turns.specs.Page.{page_of}
 use Rattle.pulses.specs.Pulse.{pulsed}
-use Rattle.pulses.specs.RunLaws.{pulse_stays, pulses_on, pulses_none, pulses_over, skips_on}
-use borrow.Author.Rules.{rules}
 use Rattle.pulses.proofs.run.take_pulses.Given as goal
 
 abbrev pub invariant-loop-left : goal.invariant-loop-left

@@ -1,5 +1,5 @@
 -- By what the tests say; where one says no, nothing is skipped.
-use Rattle.pulses.specs.SkipLaws.{skip_none, skip_idle, open_asks}
+use Rattle.pulses.specs.SkipLaws.{skip_idle}
 use Rattle.std.proofs.Common.{ap, not}
 use Rattle.pulses.proofs.skip.skip.Goals as goal
 

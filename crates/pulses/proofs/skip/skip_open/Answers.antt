@@ -1,6 +1,5 @@
 -- A select that is over counts its clocks, a READ shows whole bytes, a WRITE stores them; nothing is skipped in the others.
-use Rattle.pulses.specs.SkipLaws.{skip_none, over_room, skip_over}
-use borrow.Author.Rules.{rules}
+use Rattle.pulses.specs.SkipLaws.{over_room, skip_over}
 use Rattle.pulses.proofs.skip.skip_open.Goals as goal
 
 pub returns-in-Over-clause-skips : goal.returns-in-Over-clause-skips

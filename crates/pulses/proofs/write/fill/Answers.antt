@@ -1,12 +1,10 @@
 -- Wherever the loop is, the bytes that are left lead from there to where all of them lead from the start.
-use mathlib.Core.Path.{◌≡◌, ap, ◌∙◌}
-use Prim.Native.Nat.{ℕ, ◌+◌, ◌%◌, ◌<◌}
+use mathlib.Core.Path.{ap, ◌∙◌}
+use Prim.Native.Nat.{ℕ, ◌+◌, ◌%◌}
 use native.Mathlib.Nat.{mod-lt}
 use native.Mathlib.Omega.{arith}
 use lib.ListN.{length}
-use Rattle.pulses.specs.Sums.{fill_bytes}
-use Rattle.pulses.specs.FillLaws.{put_length, fill_on, fill_over}
-use borrow.Author.Rules.{rules}
+use Rattle.pulses.specs.FillLaws.{put_length, fill_on}
 use Rattle.pulses.proofs.write.fill.Goals as goal
 
 pub loop-left-preserved : goal.loop-left-preserved

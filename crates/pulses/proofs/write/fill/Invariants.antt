@@ -1,12 +1,8 @@
 -- Wherever the loop is, the bytes that are left lead from there to where all of them lead from the start.
-use mathlib.Core.Path.{◌≡◌, ap, ◌∙◌}
-use Prim.Native.Nat.{ℕ, ◌+◌, ◌%◌, ◌<◌}
-use native.Mathlib.Nat.{mod-lt}
-use native.Mathlib.Omega.{arith}
+use mathlib.Core.Path.{◌≡◌}
+use Prim.Native.Nat.{◌<◌}
 use lib.ListN.{length}
 use Rattle.pulses.specs.Sums.{fill_bytes}
-use Rattle.pulses.specs.FillLaws.{put_length, fill_on, fill_over}
-use borrow.Author.Rules.{rules}
 use Rattle.pulses.proofs.write.fill.Given as goal
 
 abbrev pub invariant-loop-left : goal.invariant-loop-left

@@ -1,8 +1,6 @@
 -- Where a test says no, nothing is skipped; else whole bytes are.
 use mathlib.Core.Path.{refl}
-use Rattle.pulses.specs.SkipLaws.{skip_none}
 use Rattle.pulses.specs.WriteOnLaws.{write_inside, write_asks, write_out}
-use borrow.Author.Rules.{rules}
 use Rattle.pulses.proofs.write.skip_write.Goals as goal
 
 pub write_on-stand-requires-clause-at_lt_size : goal.write_on-stand-requires-clause-at_lt_size

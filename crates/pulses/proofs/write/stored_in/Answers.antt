@@ -1,7 +1,5 @@
 -- The sum up to the end has in it the sum up to the start, and no more than the bytes besides.
-use native.Mathlib.Omega.{arith}
 use Rattle.pulses.specs.FillLaws.{stored_asks}
-use borrow.Author.Rules.{rules}
 use Rattle.pulses.proofs.write.stored_in.Goals as goal
 
 pub returns-clause-upper_bound : goal.returns-clause-upper_bound

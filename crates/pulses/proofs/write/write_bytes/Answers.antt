@@ -1,6 +1,5 @@
 -- Past a round of the array no more bytes change it.
 use Rattle.pulses.specs.WriteOnLaws.{round_is}
-use borrow.Author.Rules.{rules}
 use Rattle.pulses.proofs.write.write_bytes.Goals as goal
 
 pub returns : goal.returns

@@ -1,9 +1,6 @@
 -- Wherever the loop is, the bytes that are left lead from there to where the whole text leads from the start.
-use mathlib.Core.Path.{◌≡◌, sym, ◌∙◌}
-use Prim.Native.Nat.{◌-◌}
-use lib.ListN.{length, drop}
+use mathlib.Core.Path.{sym, ◌∙◌}
 use borrow.Author.Rules.{rules}
-use Rattle.turns.specs.Page.{page_of, printed}
 use Rattle.turns.specs.PrintLaws.{print_full, print_on, print_over}
 use Rattle.turns.proofs.page.print.Goals as goal
 

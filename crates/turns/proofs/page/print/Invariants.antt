@@ -1,10 +1,8 @@
 -- Wherever the loop is, the bytes that are left lead from there to where the whole text leads from the start.
-use mathlib.Core.Path.{◌≡◌, sym, ◌∙◌}
+use mathlib.Core.Path.{◌≡◌}
 use Prim.Native.Nat.{◌-◌}
 use lib.ListN.{length, drop}
-use borrow.Author.Rules.{rules}
 use Rattle.turns.specs.Page.{page_of, printed}
-use Rattle.turns.specs.PrintLaws.{print_full, print_on, print_over}
 use Rattle.turns.proofs.page.print.Given as goal
 
 abbrev pub invariant-loop-i : goal.invariant-loop-i

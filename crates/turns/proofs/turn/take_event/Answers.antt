@@ -1,6 +1,5 @@
 -- A refused event leaves all as it was; an accepted one leaves what the bench, the array and the page take of its answer.
 use Rattle.turns.specs.EventLaws.{event_refused, event_closes, event_goes_on}
-use borrow.Author.Rules.{rules}
 use Rattle.turns.proofs.turn.take_event.Goals as goal
 
 pub returns-then-answer-ne0 : goal.returns-then-answer-ne0
