@@ -14,7 +14,7 @@ use Rattle.chip.specs.RunLaws.{run_serial}
 use Rattle.chip.specs.Run.{Chip, powered_up}
 use Rattle.history.specs.History.{history}
 use Rattle.chip.specs.Event.{event}
-use Rattle.history.specs.PowerCut.{every_moment, power_cut, refused_alike}
+use Rattle.history.proofs.PowerCut.{every_moment, power_cut, refused_alike}
 use Rattle.history.specs.Run.{world_of}
 use Rattle.history.specs.Wire.{rest, refusal, after_all}
 use Rattle.board.specs.Checks.{is_own}

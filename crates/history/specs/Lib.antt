@@ -5,6 +5,4 @@ pub mod History
 pub mod Rows
 pub mod Run
 pub mod Examples
-pub mod Laws
-pub mod PowerCut
 pub mod Lists

@@ -1,17 +1,9 @@
--- Demand 3 over lists: whatever lists a bench sends, what a power cut leaves is the history's over the events that were
--- accepted. Assumes nothing.
-use Rattle.std.specs.Prelude.{ℕ, true, List, [], ◌∷◌, ◌++◌, ◌≡◌, refl, length, take}
-use Rattle.std.proofs.Common.{sym, ap, ◌∙◌}
-use Rattle.std.proofs.Math.Seq.{take-length}
-use Rattle.parts.specs.Figures.{fits_serial}
+-- What a bench sends as lists (demand 3 over lists): the calls one after the other, and the events that were accepted. What a power
+-- cut leaves after them is proved in proofs/Lists. Assumes nothing.
+use Rattle.std.specs.Prelude.{ℕ, List, [], ◌∷◌, ◌++◌, take}
 use Rattle.chip.specs.List.{Course, listed}
-use Rattle.chip.specs.ListRuns.{course_chip, listed_run}
-use Rattle.supply.specs.Power.{power_up}
-use Rattle.chip.specs.Run.{Chip, from_power_up, powered_up, run}
-use Rattle.history.specs.History.{history}
-use Rattle.history.specs.Laws.Moments.{run_append}
-use Rattle.history.specs.PowerCut.{every_moment, power_cut}
-use Rattle.history.specs.Run.{world_of}
+use Rattle.chip.specs.ListRuns.{course_chip}
+use Rattle.chip.specs.Run.{Chip}
 
 -- one call: its codes, and what the answers held
 pub record Sending : Type 0 where
@@ -30,33 +22,3 @@ sent c (l ∷ ls) = sent (course_chip c.serial (sending c l)) ls
 unfoldable pub accepted_of : Chip → List Sending → List ℕ
 accepted_of c [] = []
 accepted_of c (l ∷ ls) = take (sending c l).count l.codes ++ accepted_of (course_chip c.serial (sending c l)) ls
-
-pub sent_runs : (c : Chip) (ls : List Sending) → sent c ls ≡ run c (accepted_of c ls)
-unfolding sent accepted_of run
-sent_runs c [] = refl
-sent_runs c (l ∷ ls) =
-    sent_runs (course_chip c.serial (sending c l)) ls
-    ∙ ap (λ (d : Chip). run d (accepted_of (course_chip c.serial (sending c l)) ls)) (listed_run c.serial c.array c.state l.codes l.levels)
-    ∙ sym (run_append c (take (sending c l).count l.codes) (accepted_of (course_chip c.serial (sending c l)) ls))
-
-module _
-    (part kept : ℕ) (array serial : List ℕ) (ls : List Sending) (fine : (power_up part kept array).refusal ≡ 0)
-    (numbered : fits_serial part (length serial) ≡ true)
-  where
-    abbrev told : List ℕ
-    told = accepted_of (from_power_up part kept array serial) ls
-
-    -- at every moment between two calls
-    pub lists_every_moment : world_of (sent (from_power_up part kept array serial) ls) ≡ history part kept array told
-    lists_every_moment = ap world_of (sent_runs (from_power_up part kept array serial) ls) ∙ every_moment part kept array serial told fine numbered
-
-    -- a cut after the last event that was accepted; one before it is that of a shorter list
-    pub lists_power_cut :
-        run (sent (from_power_up part kept array serial) ls) (10 ∷ 11 ∷ [])
-        ≡ powered_up part (history part kept array told).kept (history part kept array told).array serial
-    lists_power_cut =
-        ap (λ (c : Chip). run c (10 ∷ 11 ∷ [])) (sent_runs (from_power_up part kept array serial) ls)
-        ∙ sym (run_append (from_power_up part kept array serial) told (10 ∷ 11 ∷ []))
-        ∙ ap (λ (codes : List ℕ). run (from_power_up part kept array serial) (codes ++ 10 ∷ 11 ∷ [])) (sym (take-length told))
-        ∙ power_cut part kept array serial told fine numbered (length told)
-        ∙ ap (λ (codes : List ℕ). powered_up part (history part kept array codes).kept (history part kept array codes).array serial) (take-length told)

@@ -1,5 +1,4 @@
 pub mod Count
 pub mod Promises
 pub mod Run
-pub mod CountLaws
 pub mod Examples

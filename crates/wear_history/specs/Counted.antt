@@ -12,8 +12,8 @@ use Rattle.chip.specs.Run.{Chip, from_power_up, powered_up, run}
 use Rattle.wear.specs.Count.{add_all, row_count}
 use Rattle.wear.specs.Run.{worn, count_run}
 use Rattle.history.specs.Rows.{row_history, cycles}
-use Rattle.history.specs.Laws.Moments.{started}
-use Rattle.history.specs.Laws.Worn.{touched_at, rows_from}
+use Rattle.history.proofs.Laws.Moments.{started}
+use Rattle.history.proofs.Laws.Worn.{touched_at, rows_from}
 use Rattle.wear_history.specs.Laws.Moments.{counts}
 
 module _

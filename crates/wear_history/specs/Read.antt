@@ -20,18 +20,18 @@ use Rattle.pins.specs.declared.hold.Hold.TheVariants.{High, LowCsLow, LowCsHigh}
 use Rattle.pins.specs.declared.state.State.{State}
 use Rattle.chip.specs.Run.{Chip, next}
 use Rattle.wear.specs.Count.{cycled, add_all, row_count, counted, counters_after}
-use Rattle.wear.specs.CountLaws.{adds_length}
+use Rattle.wear.proofs.CountLaws.{adds_length}
 use Rattle.wear.specs.Run.{Worn, count_one}
 use Rattle.history.specs.Wire.{Wire, after_one, act, acts}
 use Rattle.history.specs.Transfers.{Transfer, transfer, spans}
 use Rattle.history.specs.Bytes.{shows}
 use Rattle.history.specs.History.{World, reading}
 use Rattle.history.specs.Rows.{falls_past, begun, places, cycles}
-use Rattle.history.specs.Laws.Moments.{Moment, moment_next}
-use Rattle.history.specs.Laws.Place.{Place, outside, place_after, base}
-use Rattle.history.specs.Laws.Select.{closed}
-use Rattle.history.specs.Laws.Step.{on, wire_of, chip_of}
-use Rattle.history.specs.Laws.Worn.{touched_at, rows_at, rows_from, rows_now, finished, rows_next, places_below}
+use Rattle.history.proofs.Laws.Moments.{Moment, moment_next}
+use Rattle.history.proofs.Laws.Place.{Place, outside, place_after, base}
+use Rattle.history.proofs.Laws.Select.{closed}
+use Rattle.history.proofs.Laws.Step.{on, wire_of, chip_of}
+use Rattle.history.proofs.Laws.Worn.{touched_at, rows_at, rows_from, rows_now, finished, rows_next, places_below}
 use Rattle.wear_history.specs.Formula.{formula}
 use Rattle.wear_history.specs.Laws.Counters.{sum_all, add_append}
 use Rattle.wear_history.specs.Totals.{sum, NoneFull}
@@ -77,7 +77,8 @@ module _ (part : ℕ) (fine : Fair (figure_of part)) (some : 0 < (figure_of part
       let n = moment_next part fine q call.code in
       let more = cycled f.row (last_of d.state.stage) (last_of (next d call.code).state.stage) in
       ap (λ (v : Worn). count_over v.chip.state v.counters calls) (one_counted part fine some q counters call.code sized)
-      ∙ over_counts n (add_all before (finished f u p a)) (add_all counters more) (adds_length more counters ∙ sized)
+      ∙ over_counts {l = after_one l call.code} {p = place_after f p a} {w = base f u p a} {c = next d call.code}
+      n (add_all before (finished f u p a)) (add_all counters more) (adds_length more counters ∙ sized)
       (ap (λ (cs : List ℕ). add_all cs more) (told ∙ ap (add_all before) (sym (rows_lent k m call.array)))
       ∙ sym (add_append before (rows_at f u p) more) ∙ ap (add_all before) (sym (turned_rows part fine some q call.code n))
       ∙ add_append before (finished f u p a) (rows_at f (base f u p a) (place_after f p a)))

@@ -16,8 +16,8 @@ use Rattle.wear.specs.Count.{row_count}
 use Rattle.wear.specs.Run.{Worn, unworn, count_run}
 use Rattle.history.specs.History.{World, reading, spanned}
 use Rattle.history.specs.Rows.{changes, cycles, touched, span_rows, rows_of, row_history}
-use Rattle.history.specs.Transfers.{Span, transfer, cut, spans}
-use Rattle.history.specs.Laws.Worn.{AllBelow, below_append, touched_below}
+use Rattle.history.specs.Transfers.{Span, transfer, cut}
+use Rattle.history.proofs.Laws.Worn.{AllBelow, below_append, touched_below}
 use Rattle.wear_history.specs.Laws.Counters.{sum_all}
 use Rattle.wear_history.specs.Totals.{sum, NoneFull}
 use Rattle.wear_history.specs.Counted.{counters_told}

@@ -9,8 +9,8 @@ use borrow.Author.Tests.{lt-ltb, eq-eqb, ne_eqb, eqb-true}
 use Rattle.stages.specs.Last.{mark}
 use Rattle.wear.specs.Count.{cycled}
 use Rattle.history.specs.Rows.{changes, cycles}
-use Rattle.history.specs.Laws.Edges.{last_from, last_mark, last_more, Grows, same, more}
-use Rattle.history.specs.Laws.Worn.{AllBelow}
+use Rattle.history.proofs.Laws.Edges.{last_from, last_mark, last_more, Grows, same, more}
+use Rattle.history.proofs.Laws.Worn.{AllBelow}
 
 -- where the byte touched last is the same, no row is added
 pub cycled_same : (size last : ℕ) → cycled size last last ≡ []

@@ -2,7 +2,7 @@
 use Rattle.std.specs.Prelude.{ℕ, zero, suc, ◌+◌, ◌<◌, Bool, true, false, cond, List, [], ◌∷◌, ◌++◌, ◌≡◌, refl, eqb, get_or, length}
 use Rattle.std.proofs.Common.{add_assoc, add-zero, arith, sym, ap, ◌∙◌, length-set, ne_eqb}
 use Rattle.wear.specs.Count.{full, one_more, add_one, add_all}
-use Rattle.history.specs.Laws.Worn.{AllBelow}
+use Rattle.history.proofs.Laws.Worn.{AllBelow}
 use Rattle.wear_history.specs.Totals.{sum, NoneFull}
 
 pub add_append : (counters rows more : List ℕ) → add_all counters (rows ++ more) ≡ add_all (add_all counters rows) more

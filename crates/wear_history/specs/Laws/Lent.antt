@@ -14,14 +14,14 @@ use Rattle.history.specs.Transfers.{Edge, up, down, Transfer, rises, transfer_fr
 use Rattle.history.specs.Bytes.{Byte, Reading, latches, stores, shows, keeps, sleeps, idles, whole_bytes, read_transfer}
 use Rattle.history.specs.History.{World, keep_first, effect, is_sleep, reading, obeyed}
 use Rattle.history.specs.Rows.{falls_past, begun, places, touched, cycles, rows_of}
-use Rattle.history.specs.Laws.Bytes.{cut_bytes}
-use Rattle.history.specs.Laws.Edges.{rises_append}
-use Rattle.history.specs.Laws.Moments.{Moment}
-use Rattle.history.specs.Laws.Place.{Place, outside, inside, is_outside, read_so_far, completed, place_after}
-use Rattle.history.specs.Laws.Select.{Selected, closed, going}
-use Rattle.history.specs.Laws.Stage.{Image, code, upper, lower, dummy, ready, showing, writing, keeping, settled}
-use Rattle.history.specs.Laws.Step.{Agrees, off, on, wire_of, chip_of}
-use Rattle.history.specs.Laws.Worn.{touched_at, rows_at, rows_from}
+use Rattle.history.proofs.Laws.Bytes.{cut_bytes}
+use Rattle.history.proofs.Laws.Edges.{rises_append}
+use Rattle.history.proofs.Laws.Moments.{Moment}
+use Rattle.history.proofs.Laws.Place.{Place, outside, inside, is_outside, read_so_far, completed, place_after}
+use Rattle.history.proofs.Laws.Select.{Selected, closed, going}
+use Rattle.history.proofs.Laws.Stage.{Image, code, upper, lower, dummy, ready, showing, writing, keeping, settled}
+use Rattle.history.proofs.Laws.Step.{Agrees, off, on, wire_of, chip_of}
+use Rattle.history.proofs.Laws.Worn.{touched_at, rows_at, rows_from}
 
 -- one READ is still to come, or it is under way, or nothing more comes
 pub data Reads (f : Figure) (later : List Act) : Place → Type 0 where

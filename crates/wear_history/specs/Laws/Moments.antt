@@ -14,15 +14,15 @@ use Rattle.chip.specs.Event.{event}
 use Rattle.chip.specs.Run.{Chip, answered, next, run}
 use Rattle.chip.specs.declared.event.Answer.{Answer}
 use Rattle.wear.specs.Count.{cycled, add_all, row_count, count_refusal, counters_after}
-use Rattle.wear.specs.CountLaws.{adds_length, count_accepts}
+use Rattle.wear.proofs.CountLaws.{adds_length, count_accepts}
 use Rattle.wear.specs.Run.{Worn, worn, count_one, count_run}
 use Rattle.history.specs.History.{World}
 use Rattle.history.specs.Rows.{cycles}
 use Rattle.history.specs.Wire.{Wire, after_one, act, acts}
-use Rattle.history.specs.Laws.Edges.{last_mark, last_none}
-use Rattle.history.specs.Laws.Moments.{Moment, own_part, moment_next}
-use Rattle.history.specs.Laws.Place.{Place, place_after, base}
-use Rattle.history.specs.Laws.Worn.{touched_at, rows_at, rows_from, rows_now, finished, rows_next, Turned, ended, went, agrees_last, agrees_turns, place_below}
+use Rattle.history.proofs.Laws.Edges.{last_mark, last_none}
+use Rattle.history.proofs.Laws.Moments.{Moment, own_part, moment_next}
+use Rattle.history.proofs.Laws.Place.{Place, place_after, base}
+use Rattle.history.proofs.Laws.Worn.{touched_at, rows_at, rows_from, rows_now, finished, rows_next, Turned, ended, went, agrees_last, agrees_turns, place_below}
 use Rattle.wear_history.specs.Laws.Changes.{grows_rows}
 use Rattle.wear_history.specs.Laws.Counters.{add_append}
 
@@ -97,7 +97,8 @@ module _ (part : ℕ) (fair : Fair (figure_of part)) (rowed : 0 < (figure_of par
       let a = act l code in
       let more = cycled f.row (last_of c.state.stage) (last_of (next c code).state.stage) in
       ap (λ (v : Worn). count_run v codes) (one_counted m counters code sized)
-      ∙ counts n (add_all before (finished f w p a)) (add_all counters more) (adds_length more counters ∙ sized)
+      ∙ counts {l = after_one l code} {p = place_after f p a} {w = base f w p a} {c = next c code}
+      n (add_all before (finished f w p a)) (add_all counters more) (adds_length more counters ∙ sized)
       (ap (λ (cs : List ℕ). add_all cs more) told ∙ sym (add_append before (rows_at f w p) more) ∙ ap (add_all before) (sym (turned_rows m code n))
       ∙ add_append before (finished f w p a) (rows_at f (base f w p a) (place_after f p a)))
       codes

@@ -21,12 +21,12 @@ use Rattle.history.specs.Transfers.{Edge, up, down, rises, transfer_from, transf
 use Rattle.history.specs.Bytes.{Byte, byte, Reading, latches, stores, shows, keeps, sleeps, idles, read_transfer, eights, whole_bytes}
 use Rattle.history.specs.History.{World, overlaid, spanned, obeyed}
 use Rattle.history.specs.Rows.{falls_past, begun, places, stored_if, stored_at, touched, cycles, rows_of}
-use Rattle.history.specs.Laws.Bytes.{cut_bytes, cut_part, cut_whole}
-use Rattle.history.specs.Laws.Edges.{rises_up, rises_down, touched_up, last_mark, last_none, Grows, same, more}
-use Rattle.history.specs.Laws.Place.{Place, outside, inside, read_so_far, world_at, completed, place_after, base}
-use Rattle.history.specs.Laws.Select.{Selected, closed, waking, going}
-use Rattle.history.specs.Laws.Step.{Agrees, off, on}
-use Rattle.history.specs.Laws.Touch.{image_last, fall_grows, whole_grows}
+use Rattle.history.proofs.Laws.Bytes.{cut_bytes, cut_part, cut_whole}
+use Rattle.history.proofs.Laws.Edges.{rises_up, rises_down, touched_up, last_mark, last_none, Grows, same, more}
+use Rattle.history.proofs.Laws.Place.{Place, outside, inside, read_so_far, world_at, completed, place_after, base}
+use Rattle.history.proofs.Laws.Select.{Selected, closed, waking, going}
+use Rattle.history.proofs.Laws.Step.{Agrees, off, on}
+use Rattle.history.proofs.Laws.Touch.{image_last, fall_grows, whole_grows}
 
 -- the addresses that the open transfer touched, and their rows
 unfoldable pub touched_at : Figure → World → Place → List ℕ

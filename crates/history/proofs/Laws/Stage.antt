@@ -28,8 +28,8 @@ use Rattle.history.specs.Transfers.{Edge, down, rises}
 use Rattle.history.specs.Bytes.{Byte, wrsr_byte, Reading, latches, stores, shows, keeps, sleeps, idles, read_transfer}
 use Rattle.history.specs.History.{World, effect, at_least_one, latch_drops, is_sleep}
 use Rattle.history.specs.Rows.{falls_past, stored_at, touched}
-use Rattle.history.specs.Laws.Addresses.{next_place_lem}
-use Rattle.history.specs.Laws.Edges.{falls_down, last_mark}
+use Rattle.history.proofs.Laws.Addresses.{next_place_lem}
+use Rattle.history.proofs.Laws.Edges.{falls_down, last_mark}
 
 -- what the close of a transfer that reads so does besides
 abbrev pub drops_if : Bool → End

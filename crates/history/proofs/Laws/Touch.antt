@@ -1,6 +1,6 @@
 -- The bytes that a transfer touched, over the image of the stage: the stage keeps the last one, and an edge adds one or none. A READ adds
 -- one at each eighth fall past its header, a WRITE at each byte that is stored. Assumes nothing.
-use Rattle.std.specs.Prelude.{ℕ, suc, ◌+◌, ◌*◌, ◌-◌, ◌/◌, ◌%◌, ◌<◌, Bool, true, false, ◌≡◌, eqb}
+use Rattle.std.specs.Prelude.{ℕ, suc, ◌+◌, ◌*◌, ◌/◌, ◌%◌, ◌<◌, Bool, true, false, ◌≡◌, eqb}
 use Rattle.std.proofs.Common.{arith, ◌∙◌, eqb-true}
 use mathlib.Core.List.{List, [], ◌∷◌, ◌++◌, append-nil}
 use Rattle.std.proofs.Math.Path.{refl, sym, ap}
@@ -23,8 +23,8 @@ use Rattle.history.specs.Transfers.{Edge, down, rises}
 use Rattle.history.specs.Bytes.{Byte, Reading, stores, shows, read_as, read_transfer}
 use Rattle.history.specs.History.{World, overlay}
 use Rattle.history.specs.Rows.{falls_past, begun, places, stored_if, stored_at, touched}
-use Rattle.history.specs.Laws.Edges.{rises_down, falls_down, places_more, stored_next, touched_early, last_mark, last_more, last_none, Grows, same, more}
-use Rattle.history.specs.Laws.Stage.{Ended, over, to_status, to_ident, to_serial, status, ident, serial, data_of, Image, code, upper, lower, dummy, ready, showing, writing, keeping, settled}
+use Rattle.history.proofs.Laws.Edges.{rises_down, falls_down, places_more, stored_next, touched_early, last_mark, last_more, last_none, Grows, same, more}
+use Rattle.history.proofs.Laws.Stage.{Ended, over, to_status, to_ident, to_serial, status, ident, serial, data_of, Image, code, upper, lower, dummy, ready, showing, writing, keeping, settled}
 
 -- a byte more or none, by whether it is stored
 pub grows_by : {xs ys : List ℕ} (at : ℕ) (v : Verdict) → ys ≡ xs ++ stored_if at v → Grows xs ys

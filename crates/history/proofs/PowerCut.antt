@@ -16,9 +16,9 @@ use Rattle.supply.specs.PowerLaws.{power_one, power_masked, power_fits, power_st
 use Rattle.history.specs.History.{World, history}
 use Rattle.history.specs.Wire.{rest, refusal, after_all}
 use Rattle.history.specs.Run.{world_of}
-use Rattle.history.specs.Laws.Moments.{Reached, reached_from, world_told, run_append, cut_leaves, refusal_as}
-use Rattle.history.specs.Laws.Place.{outside}
-use Rattle.history.specs.Laws.Step.{unlatched}
+use Rattle.history.proofs.Laws.Moments.{Reached, reached_from, world_told, run_append, cut_leaves, refusal_as}
+use Rattle.history.proofs.Laws.Place.{outside}
+use Rattle.history.proofs.Laws.Step.{unlatched}
 
 module _
     (part kept : ℕ) (array serial codes : List ℕ) (accepted : (power_up part kept array).refusal ≡ 0)

@@ -25,9 +25,9 @@ use Rattle.chip.specs.declared.event.Answer.{Answer}
 use Rattle.history.specs.Wire.{Wire, rest, refusal, after_one, after_all, act, acts, passes}
 use Rattle.history.specs.History.{World, history}
 use Rattle.history.specs.Run.{world_of}
-use Rattle.history.specs.Laws.Place.{Place, outside, world_at, place_after, base, from, from_now, from_next}
-use Rattle.history.specs.Laws.Select.{closed, select_world}
-use Rattle.history.specs.Laws.Step.{Agrees, off, on, unlatched, off_chip, Onward, follows, refuses}
+use Rattle.history.proofs.Laws.Place.{Place, outside, world_at, place_after, base, from, from_now, from_next}
+use Rattle.history.proofs.Laws.Select.{closed, select_world}
+use Rattle.history.proofs.Laws.Step.{Agrees, off, on, unlatched, off_chip, Onward, follows, refuses}
 
 -- an event that the checks let through, and one that they don't know
 module _
@@ -143,7 +143,10 @@ unfolding run acts after_all
 reached part fair {l} {p} {w} {c} m [] =
     record { place = p; before = w; moment = m; told = from_now (figure_of part) w p }
 reached part fair {l} {p} {w} {c} m (code ∷ codes) =
-    let r = reached part fair (moment_next part fair m code) codes in
+    let r =
+    reached part fair {l = after_one l code} {p = place_after (figure_of part) p (act l code)}
+    {w = base (figure_of part) w p (act l code)} {c = next c code} (moment_next part fair m code) codes
+    in
     record {
       place = r.place;
       before = r.before;

@@ -22,11 +22,11 @@ use Rattle.history.specs.Wire.{Bit, closes}
 use Rattle.history.specs.Transfers.{Edge, up, down, rises}
 use Rattle.history.specs.Bytes.{Byte, byte, Reading, bits_value, read_transfer}
 use Rattle.history.specs.History.{World, with_latch, effect, latch_drops}
-use Rattle.history.specs.Laws.Bytes.{Cut, cut_none, cut_bytes, cut_part, cut_whole, shift_of, taken_part, taken_whole, value_whole, wp_of, wp_part, wp_whole}
-use Rattle.history.specs.Laws.Edges.{rises_up, rises_down}
-use Rattle.history.specs.Laws.Stage.{shut_stage, ends_drops, ends_asleep, wrsr_line, Image, code, image_open, image_ends, image_fall}
-use Rattle.history.specs.Laws.Rise.{seen_in, risen_world, part_rise, whole_rise}
-use Rattle.history.specs.Laws.Place.{Place, outside, inside, is_outside, world_at, asleep_after, base}
+use Rattle.history.proofs.Laws.Bytes.{Cut, cut_none, cut_bytes, cut_part, cut_whole, shift_of, taken_part, taken_whole, value_whole, wp_of, wp_part, wp_whole}
+use Rattle.history.proofs.Laws.Edges.{rises_up, rises_down}
+use Rattle.history.proofs.Laws.Stage.{shut_stage, ends_drops, ends_asleep, wrsr_line, Image, code, image_open, image_ends, image_fall}
+use Rattle.history.proofs.Laws.Rise.{seen_in, risen_world, part_rise, whole_rise}
+use Rattle.history.proofs.Laws.Place.{Place, outside, inside, is_outside, world_at, asleep_after, base}
 
 -- the select of a chip over the history's place: `w` is the world before the open transfer, `v` the world now; of the transfer's bits
 -- so many bytes are whole, and those of `r` are left

@@ -41,10 +41,10 @@ use Rattle.history.specs.Transfers.{Edge, up, rises}
 use Rattle.history.specs.Bytes.{Byte, wrsr_byte, Reading, latches, stores, sleeps, idles, top_bit, number, address, read_as, read_transfer}
 use Rattle.history.specs.History.{World, with_latch, store_if, overlaid, overlay, keep_if, keep_first, effect, at_least_one}
 use Rattle.history.specs.Rows.{falls_past, stored_if, stored_at, touched}
-use Rattle.history.specs.Laws.Addresses.{next_place_lem, start_one, start_two}
-use Rattle.history.specs.Laws.Edges.{falls_up, falls_none, overlay_next, stored_next, last_from, last_mark}
-use Rattle.history.specs.Laws.Touch.{last_by_lem, data_none}
-use Rattle.history.specs.Laws.Stage.{ends, Ended, over, to_status, to_ident, to_serial, status, ident, serial, came_by, data_of, wrsr_line, Idle, Paged, Settled, Image, code, upper, lower, dummy, ready, showing, writing, keeping, settled}
+use Rattle.history.proofs.Laws.Addresses.{next_place_lem, start_one, start_two}
+use Rattle.history.proofs.Laws.Edges.{falls_up, falls_none, overlay_next, stored_next, last_from, last_mark}
+use Rattle.history.proofs.Laws.Touch.{last_by_lem, data_none}
+use Rattle.history.proofs.Laws.Stage.{ends, Ended, over, to_status, to_ident, to_serial, status, ident, serial, came_by, data_of, wrsr_line, Idle, Paged, Settled, Image, code, upper, lower, dummy, ready, showing, writing, keeping, settled}
 
 abbrev pub seen_in : World → Bool → Bool → Seen
 seen_in w wp si = record { latch = w.latch; kept = w.kept; wp = wp; si = si }

@@ -27,9 +27,9 @@ use Rattle.pins.specs.declared.hold.Hold.{Hold}
 use Rattle.pins.specs.declared.hold.Hold.TheVariants.{High, LowCsLow, LowCsHigh}
 use Rattle.history.specs.Wire.{Wire, rest, put, refusal, after_one, act}
 use Rattle.history.specs.History.{World}
-use Rattle.history.specs.Laws.Place.{Place, outside, inside, is_outside, world_at, asleep_after, place_after, base}
-use Rattle.history.specs.Laws.Stage.{shut_stage}
-use Rattle.history.specs.Laws.Select.{Selected, closed, select_open, select_world, select_fall, select_fresh, select_rise, select_close, select_shut}
+use Rattle.history.proofs.Laws.Place.{Place, outside, inside, is_outside, world_at, asleep_after, place_after, base}
+use Rattle.history.proofs.Laws.Stage.{shut_stage}
+use Rattle.history.proofs.Laws.Select.{Selected, closed, select_open, select_world, select_fall, select_fresh, select_rise, select_close, select_shut}
 
 -- the level of /CS, by /HOLD and whether no select is open
 abbrev cs_of : Hold → Bool → Bool

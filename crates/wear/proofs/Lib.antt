@@ -1,0 +1,2 @@
+-- What the counting call's promise comes to.
+pub mod CountLaws
