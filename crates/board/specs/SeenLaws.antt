@@ -12,7 +12,7 @@ use Rattle.chip.specs.EventLaws as chip-event
 use Rattle.chip.specs.Run as chip-run
 use Rattle.chip.specs.Run.{Chip}
 use Rattle.board.specs.Checks.{is_own}
-use Rattle.board.specs.Event.{every, at, refusal_at, refusal}
+use Rattle.board.specs.Event.{every, at, refusal_at}
 use Rattle.board.specs.EventLaws.{next_refused}
 use Rattle.board.specs.ApartLaws.{own_alone, good_refusal, same_count}
 use Rattle.board.specs.CheckLaws.{checks_passed}

@@ -7,6 +7,7 @@ use crate::chips::{Board, MOST, together};
 use pins::sound::sound;
 
 // Whether the code is one of a chip's own lines: /CS or /HOLD.
+#[tactic(auto, unfolding(crate::specs::Checks::is_own))]
 pub(crate) fn is_own(code: u64) -> bool
     ensures { result ≡ is_own code }
 {
@@ -15,12 +16,14 @@ pub(crate) fn is_own(code: u64) -> bool
 }
 
 // Whether there are no chips or over eight.
+#[tactic(auto, unfolding(crate::specs::Checks::no_board))]
 pub(crate) fn no_board(count: usize) -> bool
     ensures { result ≡ no_board count }
 {
     (count == 0) | (MOST < count)
 }
 
+#[tactic(auto, unfolding(crate::specs::Checks::all_sound))]
 fn all_sound(board: Board) -> bool
     requires { board.count ≤ 8 }
     ensures { result ≡ all_sound (fitted board) }
@@ -37,6 +40,7 @@ fn all_sound(board: Board) -> bool
 }
 
 // 13, 14, 4, 2, 15, 5; 0 where none of them is given.
+#[tactic(auto, unfolding(crate::specs::Checks::checks))]
 pub(crate) fn checks(board: Board, len: usize, serials: usize, chip: usize, code: u64) -> u8
     ensures { result ≡ checks board len serials chip code }
 {

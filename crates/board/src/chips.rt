@@ -42,6 +42,7 @@ pub(crate) fn lengths_of(state: State) -> Lengths
 }
 
 // How long the pieces of the first so many chips are together: where the next one's begin.
+#[tactic(auto, unfolding(crate::specs::Chips::sum))]
 pub(crate) fn together(board: Board, count: usize) -> Lengths
     requires { count ≤ 8 }
     ensures { (result.array ≡ together (take count board.chips)) × (result.serials ≡ serials_together (take count board.chips)) }

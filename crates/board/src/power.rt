@@ -30,6 +30,7 @@ pub struct PoweredBoard {
     pub board: Board,
 }
 
+#[tactic(auto, unfolding(crate::specs::Power::all_parts))]
 fn all_parts(plan: Plan) -> bool
     requires { plan.count ≤ 8 }
     ensures { result ≡ all_parts (asked plan) }
@@ -54,6 +55,7 @@ fn in_mask(asked: Asked) -> bool
     kept & (f.kept as u64) == kept
 }
 
+#[tactic(auto, unfolding(crate::specs::Power::all_masked))]
 fn all_masked(plan: Plan) -> bool
     requires { plan.count ≤ 8 }
     ensures { result ≡ all_masked (asked plan) }
@@ -69,6 +71,7 @@ fn all_masked(plan: Plan) -> bool
     true
 }
 
+#[tactic(auto, unfolding(crate::specs::Chips::sum))]
 fn together_asked(plan: Plan) -> usize
     requires { plan.count ≤ 8 }
     ensures { result ≡ together_asked (asked plan) }
@@ -84,6 +87,7 @@ fn together_asked(plan: Plan) -> usize
     sum
 }
 
+#[tactic(auto, unfolding(crate::specs::Power::power_refusal))]
 fn power_refusal(plan: Plan, len: usize) -> u8
     ensures { result ≡ power_refusal plan len }
 {
@@ -125,6 +129,7 @@ fn power_each(plan: Plan, array: &[u8]) -> [State; MOST]
 }
 
 // Power-up of the board's chips with their kept bits, over the slice that is lent to them.
+#[tactic(auto, unfolding(crate::specs::Power::power_up))]
 pub fn power_up(plan: Plan, array: &[u8]) -> PoweredBoard
     ensures { result ≡ power_up plan array.now }
 {

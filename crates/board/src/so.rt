@@ -39,6 +39,7 @@ fn joined(so: BoardSo, level: Level) -> BoardSo
     }
 }
 
+#[tactic(auto, unfolding(crate::specs::Loop::joined_all))]
 pub(crate) fn board_so(board: Board) -> BoardSo
     requires { board.count ≤ 8 }
     ensures { result ≡ board_so (fitted board) }

@@ -1,0 +1,15 @@
+-- The kept bits from here on are under their masks exactly if all are; one that is not ends it, past the last one there is
+-- nothing left to test.
+use mathlib.Core.Path.{◌≡◌}
+use Prim.Native.Nat.{◌≤◌, ◌-◌}
+use lib.ListN.{length}
+use Rattle.board.specs.Power.{all_masked}
+use Rattle.board.specs.WalkLaws.{rest}
+use Rattle.board.proofs.power.all_masked.Given as goal
+
+abbrev pub invariant-loop-i : goal.invariant-loop-i
+invariant-loop-i l =
+    (l.i ≤ l.count) × (l.count ≤ length l.plan.chips) × (all_masked (rest l.i l.count l.plan.chips) ≡ all_masked (rest 0 l.count l.plan.chips))
+
+abbrev pub decreases-loop-i : goal.decreases-loop-i
+decreases-loop-i l = l.count - l.i
