@@ -18,11 +18,11 @@ use Rattle.history.proofs.PowerCut.{every_moment, power_cut, refused_alike}
 use Rattle.history.specs.Run.{world_of}
 use Rattle.history.specs.Wire.{rest, refusal, after_all}
 use Rattle.board.specs.Checks.{is_own}
-use Rattle.board.specs.GoodLaws.{Good}
+use Rattle.board.proofs.GoodLaws.{Good}
 use Rattle.board.specs.Power.{asked, power_up}
-use Rattle.board.specs.PoweredLaws.{powered_board, good_powered, powered_chip, powered_serial}
+use Rattle.board.proofs.PoweredLaws.{powered_board, good_powered, powered_chip, powered_serial}
 use Rattle.board.specs.Run.{chips, Held, Sent, refusal_of, run, from_power_up, serials_asked, piece_at, serial_at, sees, seen}
-use Rattle.board.specs.SeenLaws.{run_seen, own_refusal, good_run, run_count}
+use Rattle.board.proofs.SeenLaws.{run_seen, own_refusal, good_run, run_count}
 use Rattle.board.specs.declared.chips.Board.{Board}
 use Rattle.board.specs.declared.power.Asked.{Asked}
 use Rattle.board.specs.declared.power.Plan.{Plan}

@@ -3,7 +3,7 @@ use mathlib.Core.Path.{◌≡◌}
 use Prim.Native.Nat.{◌≤◌, ◌-◌}
 use lib.ListN.{length}
 use Rattle.board.specs.Checks.{all_sound}
-use Rattle.board.specs.WalkLaws.{rest}
+use Rattle.board.proofs.WalkLaws.{rest}
 use Rattle.board.proofs.checks.all_sound.Given as goal
 
 abbrev pub invariant-loop-i : goal.invariant-loop-i

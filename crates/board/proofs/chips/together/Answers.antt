@@ -2,8 +2,8 @@
 use Rattle.std.proofs.Common.{arith, ◌+◌}
 use Rattle.parts.specs.FigureLaws.{largest, serial_short}
 use Rattle.board.specs.Chips.{together, serials_together, sum}
-use Rattle.board.specs.PieceLaws.{still_small}
-use Rattle.board.specs.WalkLaws.{walk_next, added}
+use Rattle.board.proofs.PieceLaws.{still_small}
+use Rattle.board.proofs.WalkLaws.{walk_next, added}
 use Rattle.board.proofs.chips.together.Goals as goal
 
 pub overflow_add-array : goal.overflow_add-array

@@ -4,7 +4,7 @@ use Prim.Native.Nat.{◌+◌, ◌*◌, ◌≤◌, ◌-◌}
 use lib.ListN.{length}
 use Rattle.parts.specs.FigureLaws.{most}
 use Rattle.board.specs.Chips.{together, serials_together}
-use Rattle.board.specs.WalkLaws.{rest}
+use Rattle.board.proofs.WalkLaws.{rest}
 use Rattle.board.proofs.chips.together.Given as goal
 
 abbrev pub invariant-loop-i : goal.invariant-loop-i

@@ -2,7 +2,7 @@
 use Rattle.std.proofs.Common.{arith, sym, ◌∙◌, ◌≤◌, length}
 use Rattle.board.specs.Chips.{chips_of}
 use Rattle.board.specs.Event.{every, at}
-use Rattle.board.specs.EventLaws.{way_refused, few_chips, few_after, whole_slice, whole_serials, its_chip, way_shared, way_own, way_own_refused}
+use Rattle.board.proofs.EventLaws.{way_refused, few_chips, few_after, whole_slice, whole_serials, its_chip, way_shared, way_own, way_own_refused}
 use Rattle.board.proofs.event.event.Goals as goal
 
 pub returns-then-refusal-ne0 : goal.returns-then-refusal-ne0

@@ -1,6 +1,6 @@
 -- Turn by turn what comes of all chips is fixed (`Going`): the next chip's pieces are lent to it, and that of the slice is put back.
 use Rattle.std.proofs.Common.{arith}
-use Rattle.board.specs.EveryLaws.{ends_inside, own_inside, going_on, going_ends}
+use Rattle.board.proofs.EveryLaws.{ends_inside, own_inside, going_on, going_ends}
 use Rattle.board.proofs.event.move_every.Goals as goal
 
 pub overflow_add-end : goal.overflow_add-end

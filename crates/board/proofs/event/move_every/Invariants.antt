@@ -1,6 +1,6 @@
 -- Turn by turn what comes of all chips is fixed (`Going`): the next chip's pieces are lent to it, and that of the slice is put back.
 use Prim.Native.Nat.{◌-◌}
-use Rattle.board.specs.EveryLaws.{Going}
+use Rattle.board.proofs.EveryLaws.{Going}
 use Rattle.board.proofs.event.move_every.Given as goal
 
 abbrev pub invariant-loop-i : goal.invariant-loop-i

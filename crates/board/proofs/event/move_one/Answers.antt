@@ -1,6 +1,6 @@
 -- The chip's pieces begin where those before it end. They are lent to the chip, and that of the slice is put back, so all else stays.
 use Rattle.std.proofs.Common.{arith, ◌≤◌, length}
-use Rattle.board.specs.OneLaws.{array, serial, one_inside, one_refused, one_moved, one_written}
+use Rattle.board.proofs.OneLaws.{array, serial, one_inside, one_refused, one_moved, one_written}
 use Rattle.board.proofs.event.move_one.Goals as goal
 
 pub overflow_add-end : goal.overflow_add-end

@@ -1,7 +1,7 @@
 -- The kept bits from here on are under their masks exactly if all are; one that is not ends it.
 use Rattle.std.proofs.Common.{arith, sym, ◌∙◌}
 use Rattle.board.specs.Power.{all_masked}
-use Rattle.board.specs.WalkLaws.{walk_next, passed, failed}
+use Rattle.board.proofs.WalkLaws.{walk_next, passed, failed}
 use Rattle.board.proofs.power.all_masked.Goals as goal
 
 pub returns-then-not-in_mask : goal.returns-then-not-in_mask

@@ -3,7 +3,7 @@ use mathlib.Core.Path.{◌≡◌}
 use Prim.Native.Nat.{◌≤◌, ◌-◌}
 use lib.ListN.{length}
 use Rattle.board.specs.Power.{all_parts}
-use Rattle.board.specs.WalkLaws.{rest}
+use Rattle.board.proofs.WalkLaws.{rest}
 use Rattle.board.proofs.power.all_parts.Given as goal
 
 abbrev pub invariant-loop-i : goal.invariant-loop-i

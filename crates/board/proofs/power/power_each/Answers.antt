@@ -1,7 +1,7 @@
 -- Turn by turn what comes of all chips is fixed (`Powering`): the next chip is powered up over its piece.
 use Rattle.std.proofs.Common.{arith, ap}
 use Rattle.supply.specs.declared.power.Powered.{Powered}
-use Rattle.board.specs.PowerLaws.{asked_inside, powering_on, powering_ends}
+use Rattle.board.proofs.PowerLaws.{asked_inside, powering_on, powering_ends}
 use Rattle.board.proofs.power.power_each.Goals as goal
 
 pub overflow_add-end : goal.overflow_add-end

@@ -1,6 +1,6 @@
 -- Turn by turn what comes of all chips is fixed (`Powering`): the next chip is powered up over its piece.
 use Prim.Native.Nat.{◌-◌}
-use Rattle.board.specs.PowerLaws.{Powering}
+use Rattle.board.proofs.PowerLaws.{Powering}
 use Rattle.board.proofs.power.power_each.Given as goal
 
 abbrev pub invariant-loop-i : goal.invariant-loop-i

@@ -1,6 +1,6 @@
 -- The tests come in the order of the refusals; what is past the first has at most eight chips.
 use Rattle.std.proofs.Common.{sym, ◌∙◌}
-use Rattle.board.specs.CheckLaws.{few}
+use Rattle.board.proofs.CheckLaws.{few}
 use Rattle.board.proofs.power.power_refusal.Goals as goal
 
 pub all_parts-requires : goal.all_parts-requires

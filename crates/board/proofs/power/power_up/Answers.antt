@@ -1,6 +1,6 @@
 -- The refusals first; what passes them has at most eight chips, and the slice is as long as their pieces.
 use Rattle.std.proofs.Common.{sym, ◌∙◌}
-use Rattle.board.specs.PowerLaws.{power_allowed}
+use Rattle.board.proofs.PowerLaws.{power_allowed}
 use Rattle.board.proofs.power.power_up.Goals as goal
 
 pub power_each-chips-requires : goal.power_each-chips-requires

@@ -3,8 +3,8 @@ use Rattle.std.proofs.Common.{arith, ◌+◌}
 use Rattle.parts.specs.FigureLaws.{largest}
 use Rattle.board.specs.Chips.{sum}
 use Rattle.board.specs.Power.{together_asked}
-use Rattle.board.specs.PieceLaws.{still_small}
-use Rattle.board.specs.WalkLaws.{walk_next, added}
+use Rattle.board.proofs.PieceLaws.{still_small}
+use Rattle.board.proofs.WalkLaws.{walk_next, added}
 use Rattle.board.proofs.power.together_asked.Goals as goal
 
 pub overflow_add-sum : goal.overflow_add-sum

@@ -1,6 +1,6 @@
 -- SO of the chips so far, joined by those that are left, is SO of all.
 use Rattle.std.proofs.Common.{arith, zero-le}
-use Rattle.board.specs.SoLaws.{joined_line, joined_next}
+use Rattle.board.proofs.SoLaws.{joined_line, joined_next}
 use Rattle.board.proofs.so.board_so.Goals as goal
 
 pub loop-i-init : goal.loop-i-init

@@ -4,7 +4,7 @@ use Prim.Native.Nat.{◌≤◌, ◌-◌}
 use lib.ListN.{length}
 use Rattle.board.specs.Loop.{joined_all}
 use Rattle.board.specs.So.{board_so}
-use Rattle.board.specs.WalkLaws.{rest}
+use Rattle.board.proofs.WalkLaws.{rest}
 use Rattle.board.proofs.so.board_so.Given as goal
 
 abbrev pub invariant-loop-i : goal.invariant-loop-i

@@ -9,9 +9,9 @@ use Rattle.chip.specs.Run.{Chip, next}
 use Rattle.chip.specs.declared.event.Answer.{Answer}
 use Rattle.board.specs.Chips.{fitted, together, serials_together, pieces, chips_of, states, slice, with_chips}
 use Rattle.board.specs.Checks.{is_own, checks}
-use Rattle.board.specs.CheckLaws.{Passed, checks_passed}
+use Rattle.board.proofs.CheckLaws.{Passed, checks_passed}
 use Rattle.board.specs.Event.{every, at, moved, refusal_at, refusal, Outcome, left, refused, event}
-use Rattle.board.specs.PieceLaws.{slice_of}
+use Rattle.board.proofs.PieceLaws.{slice_of}
 use Rattle.board.specs.Promises.{BoardPromise}
 use Rattle.board.specs.So.{so_number, board_so}
 use Rattle.board.specs.declared.chips.Board.{Board}

@@ -12,9 +12,9 @@ use Rattle.chip.specs.RunLaws.{next_length}
 use Rattle.chip.specs.declared.event.Answer.{Answer}
 use Rattle.board.specs.Chips.{piece_length, serial_length, sum, together, serials_together, pieces, states, slice}
 use Rattle.board.specs.Event.{every}
-use Rattle.board.specs.LentLaws.{lent, told_state, told_array}
-use Rattle.board.specs.PieceLaws.{part_length, put_length, put_take, put_drop}
-use Rattle.board.specs.WalkLaws.{rest, rest_next, rest_none, place_next, none_added, added, all_added}
+use Rattle.board.proofs.LentLaws.{lent, told_state, told_array}
+use Rattle.board.proofs.PieceLaws.{part_length, put_length, put_take, put_drop}
+use Rattle.board.proofs.WalkLaws.{rest, rest_next, rest_none, place_next, none_added, added, all_added}
 use Rattle.board.specs.declared.chips.Board.{Board}
 
 -- "A shared line moves every chip": at chip i those before it have moved, it and those behind it are as they were, and what

@@ -8,7 +8,7 @@ use Rattle.chip.specs.Run.{Chip}
 use Rattle.chip.specs.RunLaws.{next_part, next_length}
 use Rattle.board.specs.Chips.{piece_length, serial_length, sum, together, serials_together, pieces, states, slice}
 use Rattle.board.specs.Event.{every, at}
-use Rattle.board.specs.PieceLaws.{part_length, rest_long, none_left}
+use Rattle.board.proofs.PieceLaws.{part_length, rest_long, none_left}
 
 -- each chip has an array and a serial number of its own length, and the serials are ns
 pub data Fit : List ℕ → List Chip → Type 0 where

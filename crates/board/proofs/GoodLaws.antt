@@ -8,12 +8,12 @@ use Rattle.chip.specs.Run.{Chip}
 use Rattle.chip.specs.RunLaws.{next_sound}
 use Rattle.board.specs.Chips.{fitted, together, serials_together, pieces, states, slice, with_chips}
 use Rattle.board.specs.Checks.{is_own, no_board, all_sound, checks}
-use Rattle.board.specs.CheckLaws.{few, checks_passed}
+use Rattle.board.proofs.CheckLaws.{few, checks_passed}
 use Rattle.board.specs.Event as event
 use Rattle.board.specs.Event.{every, at, moved}
-use Rattle.board.specs.EventLaws.{event_refused, event_left, by_checks, many_pieces, many_every, many_at, many_states, fitted_with}
-use Rattle.board.specs.FitLaws.{Fit, again, pieces_fit, every_fits, at_fits, long_fit}
-use Rattle.board.specs.PieceLaws.{states_of}
+use Rattle.board.proofs.EventLaws.{event_refused, event_left, by_checks, many_pieces, many_every, many_at, many_states, fitted_with}
+use Rattle.board.proofs.FitLaws.{Fit, again, pieces_fit, every_fits, at_fits, long_fit}
+use Rattle.board.proofs.PieceLaws.{states_of}
 use Rattle.board.specs.Run.{Held, chips, Sent, refusal_of, next}
 use Rattle.board.specs.declared.chips.Board.{Board}
 

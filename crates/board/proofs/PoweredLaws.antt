@@ -17,10 +17,10 @@ use Rattle.chip.specs.Run.{Chip}
 use Rattle.supply.specs.PowerLaws.{power_sound}
 use Rattle.board.specs.Chips.{piece_length, serial_length, sum, together, serials_together, pieces, chips_of}
 use Rattle.board.specs.Checks.{all_sound}
-use Rattle.board.specs.GoodLaws.{Good}
-use Rattle.board.specs.PieceLaws.{part_length, rest_long}
+use Rattle.board.proofs.GoodLaws.{Good}
+use Rattle.board.proofs.PieceLaws.{part_length, rest_long}
 use Rattle.board.specs.Power.{asked, all_parts, all_masked, together_asked, power_refusal, powered, spare, power_up}
-use Rattle.board.specs.PowerLaws.{Allowed, power_allowed}
+use Rattle.board.proofs.PowerLaws.{Allowed, power_allowed}
 use Rattle.board.specs.Run.{chips, from_power_up, serials_asked, share_at, piece_at, serial_at}
 use Rattle.board.specs.declared.chips.Board.{Board}
 use Rattle.board.specs.declared.power.Asked.{Asked}

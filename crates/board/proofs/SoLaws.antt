@@ -9,7 +9,7 @@ use Rattle.pins.specs.Levels.{so_level}
 use Rattle.pins.specs.declared.state.State.{State}
 use Rattle.board.specs.So.{so_number, driven, line, levels, board_so}
 use Rattle.board.specs.Loop.{joined, joined_all}
-use Rattle.board.specs.WalkLaws.{rest, walk_next}
+use Rattle.board.proofs.WalkLaws.{rest, walk_next}
 use Rattle.board.specs.declared.so.BoardSo.{BoardSo}
 use Rattle.board.specs.declared.so.BoardSo.TheVariants.{Low, High, Released, Fight}
 

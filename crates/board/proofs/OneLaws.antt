@@ -15,8 +15,8 @@ use Rattle.chip.specs.Run.{Chip, next}
 use Rattle.chip.specs.declared.event.Answer.{Answer}
 use Rattle.board.specs.Chips.{piece_length, serial_length, sum, together, serials_together, pieces, states, slice}
 use Rattle.board.specs.Event.{at, refusal_at}
-use Rattle.board.specs.LentLaws.{lent, told_state, told_array}
-use Rattle.board.specs.PieceLaws.{states_of, slice_of, rest_long, piece_inside}
+use Rattle.board.proofs.LentLaws.{lent, told_state, told_array}
+use Rattle.board.proofs.PieceLaws.{states_of, slice_of, rest_long, piece_inside}
 
 abbrev pub array : State → ℕ
 array s = piece_length s.part

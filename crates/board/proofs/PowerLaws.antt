@@ -9,9 +9,9 @@ use Rattle.pins.specs.declared.state.State.{State}
 use Rattle.supply.specs.Power as chip
 use Rattle.board.specs.Chips.{piece_length, sum}
 use Rattle.board.specs.Checks.{no_board}
-use Rattle.board.specs.CheckLaws.{few}
+use Rattle.board.proofs.CheckLaws.{few}
 use Rattle.board.specs.Power.{asked, all_parts, all_masked, together_asked, power_refusal, powered, spare}
-use Rattle.board.specs.WalkLaws.{rest, rest_next, rest_none, place_next, none_added, added}
+use Rattle.board.proofs.WalkLaws.{rest, rest_next, rest_none, place_next, none_added, added}
 use Rattle.board.specs.declared.power.Asked.{Asked}
 use Rattle.board.specs.declared.power.Plan.{Plan}
 

@@ -4,7 +4,7 @@ use Rattle.std.specs.Prelude.{ℕ, ◌≡◌, List}
 use Rattle.laws.specs.TestLaws.{sole}
 use Rattle.board.specs.Power.{power_up}
 use Rattle.board.specs.Promises.{BoardPromise}
-use Rattle.board.specs.SoLaws.{so_sole}
+use Rattle.board.proofs.SoLaws.{so_sole}
 use Rattle.board.specs.declared.chips.Board.{Board}
 use Rattle.board.specs.declared.event.BoardAnswer.{BoardAnswer}
 use Rattle.board.specs.declared.power.Plan.{Plan}

@@ -13,10 +13,10 @@ use Rattle.chip.specs.Run as chip-run
 use Rattle.chip.specs.Run.{Chip}
 use Rattle.board.specs.Checks.{is_own}
 use Rattle.board.specs.Event.{every, at, refusal_at}
-use Rattle.board.specs.EventLaws.{next_refused}
-use Rattle.board.specs.ApartLaws.{own_alone, good_refusal, same_count}
-use Rattle.board.specs.CheckLaws.{checks_passed}
-use Rattle.board.specs.GoodLaws.{Good, late_checks, many, next_stays, accepted_passed, moved_chips, good_next}
+use Rattle.board.proofs.EventLaws.{next_refused}
+use Rattle.board.proofs.ApartLaws.{own_alone, good_refusal, same_count}
+use Rattle.board.proofs.CheckLaws.{checks_passed}
+use Rattle.board.proofs.GoodLaws.{Good, late_checks, many, next_stays, accepted_passed, moved_chips, good_next}
 use Rattle.board.specs.Run.{Held, chips, Sent, refusal_of, next, run, sees, seen}
 
 -- 5: the chip refuses what is no event, as the board does

@@ -6,7 +6,7 @@ use Rattle.chip.specs.Event.{first}
 use Rattle.chip.specs.Run.{Chip}
 use Rattle.board.specs.Checks.{is_own}
 use Rattle.board.specs.Event.{every, at, moved, refusal_at, refusal}
-use Rattle.board.specs.GoodLaws.{Good, late_checks, good_checks, put, next_stays, next_put, put_put, many_moved, moved_chips, good_next, good_from}
+use Rattle.board.proofs.GoodLaws.{Good, late_checks, good_checks, put, next_stays, next_put, put_put, many_moved, moved_chips, good_next, good_from}
 use Rattle.board.specs.Run.{Held, chips, Sent, refusal_of, next, run}
 
 -- "an own line moves one chip and nothing of any other, bytes included"

@@ -1,0 +1,15 @@
+pub mod WalkLaws
+pub mod PieceLaws
+pub mod SoLaws
+pub mod CheckLaws
+pub mod LentLaws
+pub mod EveryLaws
+pub mod OneLaws
+pub mod PowerLaws
+pub mod EventLaws
+pub mod FitLaws
+pub mod GoodLaws
+pub mod ApartLaws
+pub mod SeenLaws
+pub mod PoweredLaws
+pub mod Outcomes
