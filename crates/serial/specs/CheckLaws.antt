@@ -1,13 +1,13 @@
 -- What the check call finds by the table is what the long division says. Assumes nothing.
 use Rattle.std.specs.Prelude.{ℕ, zero, suc, ◌-◌, ◌<◌, ◌≡◌, List, [], ◌∷◌, length, take, get_or}
-use Rattle.std.proofs.Common.{refl, sym, ◌∙◌}
+use Rattle.std.proofs.Common.{sym, ◌∙◌}
 use borrow.Author.Tests.{eq-eqb, ne_eqb}
 use Rattle.parts.specs.Figures.{serial_bytes}
 use Rattle.serial.specs.Check.{divided, last_byte, checked}
 use Rattle.serial.specs.Division.{check_byte}
-use Rattle.serial.specs.DivisionLaws.{Bytes, by_rule}
+use Rattle.serial.specs.DivisionLaws.{Bytes, by_table}
 use Rattle.serial.specs.Promises.{CheckPromise}
-use Rattle.serial.specs.Table.{table, ruled, crc_of}
+use Rattle.serial.specs.Table.{crc_of}
 use Rattle.serial.specs.declared.check.Checked.TheVariants.{Yes, No, WrongLength}
 
 -- the first bytes of a slice are bytes
@@ -16,28 +16,18 @@ bytes_of s zero small = tt
 bytes_of [] (suc n) small = tt
 bytes_of (x ∷ s) (suc n) small = (small 0, bytes_of s n (λ i. small (suc i)))
 
--- the call, by its tests, where the table keeps its rule
-module _ (rule : table ≡ ruled) (s : List ℕ) (small : (i : ℕ) → get_or s i 0 < 256) {crc : ℕ} (told : crc ≡ crc_of (divided s) 0) where
-  by_division : check_byte (divided s) ≡ crc
-  by_division = by_rule rule (divided s) (bytes_of s (serial_bytes - 1) small) ∙ sym told
-
-  yes_by : length s ≡ serial_bytes → crc ≡ last_byte s → CheckPromise s Yes
-  unfolding checked
-  yes_by long e = rw (eq-eqb _ _ long, by_division, eq-eqb _ _ e)
-
-  no_by : length s ≡ serial_bytes → (crc ≡ last_byte s → ⊥) → CheckPromise s No
-  unfolding checked
-  no_by long e = rw (eq-eqb _ _ long, by_division, ne_eqb _ _ e)
-
--- it keeps it
+-- the call, by its tests
 module _ (s : List ℕ) (small : (i : ℕ) → get_or s i 0 < 256) {crc : ℕ} (told : crc ≡ crc_of (divided s) 0) where
+  by_division : check_byte (divided s) ≡ crc
+  by_division = by_table (divided s) (bytes_of s (serial_bytes - 1) small) ∙ sym told
+
   pub says_yes : length s ≡ serial_bytes → crc ≡ last_byte s → CheckPromise s Yes
-  unfolding table check_byte
-  says_yes = yes_by refl s small told
+  unfolding checked
+  says_yes long e = rw (eq-eqb _ _ long, by_division, eq-eqb _ _ e)
 
   pub says_no : length s ≡ serial_bytes → (crc ≡ last_byte s → ⊥) → CheckPromise s No
-  unfolding table check_byte
-  says_no = no_by refl s small told
+  unfolding checked
+  says_no long e = rw (eq-eqb _ _ long, by_division, ne_eqb _ _ e)
 
 pub says_fifteen : (s : List ℕ) → (length s ≡ serial_bytes → ⊥) → CheckPromise s WrongLength
 unfolding checked

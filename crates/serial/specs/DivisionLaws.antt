@@ -4,8 +4,8 @@ use Rattle.std.proofs.Common.{zero-le, sym, ap, ◌∙◌, append_assoc, arith, 
 use Rattle.std.specs.Int.Bits.{bit_xor, differ, xor_step}
 use Rattle.std.proofs.lemmas.Nat.{xor_shr, xor_lt}
 use Rattle.serial.specs.Division.{divisor, plus_bit, plus, remainder, bit, bits_of, all_bits, byte_of, zeros, check_byte}
-use Rattle.serial.specs.Table.{table, crc_of, up_from, ruled}
-use Rattle.serial.specs.TableLaws.{equal_at, entry_by, entry_small, crc_small}
+use Rattle.serial.specs.Table.{table, crc_of, up_from}
+use Rattle.serial.specs.TableLaws.{equal_at, entry_at, entry_small, crc_small}
 
 -- ---- sums
 
@@ -134,9 +134,9 @@ bits_left : map (λ (i : ℕ). bits_of (byte_of (leaves i))) (up_from 0 256) ≡
 bits_left = refl
 
 -- the table's rule at each entry, by bits
-entry : table ≡ ruled → (i : ℕ) → i < 256 → bits_of (get_or table i 0) ≡ leaves i
+entry : (i : ℕ) → i < 256 → bits_of (get_or table i 0) ≡ leaves i
 unfolding check_byte
-entry rule i h = ap bits_of (entry_by rule i h) ∙ equal_at (λ (n : ℕ). bits_of (byte_of (leaves n))) leaves 256 0 i bits_left zero-le h
+entry i h = ap bits_of (entry_at i h) ∙ equal_at (λ (n : ℕ). bits_of (byte_of (leaves n))) leaves 256 0 i bits_left zero-le h
 
 -- ---- bytes one after the other
 
@@ -164,39 +164,34 @@ fold_in crc byte bytes = λ i.
     sym (xor_bit crc byte 7) i ∷ sym (xor_bit crc byte 6) i ∷ sym (xor_bit crc byte 5) i ∷ sym (xor_bit crc byte 4) i
     ∷ sym (xor_bit crc byte 3) i ∷ sym (xor_bit crc byte 2) i ∷ sym (xor_bit crc byte 1) i ∷ sym (xor_bit crc byte 0) i ∷ behind bytes
 
-one_byte : table ≡ ruled → (x : ℕ) (bytes : List ℕ) → x < 256 → remainder 8 (bits_of x ++ behind bytes) ≡ plus (bits_of (get_or table x 0)) (behind bytes)
-one_byte rule x bytes h =
+one_byte : (x : ℕ) (bytes : List ℕ) → x < 256 → remainder 8 (bits_of x ++ behind bytes) ≡ plus (bits_of (get_or table x 0)) (behind bytes)
+one_byte x bytes h =
     let b = begins bytes in
     ap (λ (r : List Bool). remainder 8 (bits_of x ++ r)) b.is
     ∙ byte_steps x b.next b.rest
-    ∙ (λ i. plus (sym b.is i) (sym (entry rule x h) i))
+    ∙ (λ i. plus (sym b.is i) (sym (entry x h) i))
     ∙ plus_comm (behind bytes) (bits_of (get_or table x 0))
 
 eight_more : (n : ℕ) → suc n * 8 ≡ 8 + n * 8
 eight_more n = omega arith
 
-steps_in : table ≡ ruled → (bytes : List ℕ) (crc : ℕ) → crc < 256 → Bytes bytes
+steps_in : (bytes : List ℕ) (crc : ℕ) → crc < 256 → Bytes bytes
     → remainder (length bytes * 8) (plus (bits_of crc) (behind bytes)) ≡ bits_of (crc_of bytes crc)
-steps_in rule [] crc h all = plus_zeros crc []
-steps_in rule (byte ∷ bytes) crc h all =
+steps_in [] crc h all = plus_zeros crc []
+steps_in (byte ∷ bytes) crc h all =
     ap (λ (n : ℕ). remainder n (plus (bits_of crc) (behind (byte ∷ bytes)))) (eight_more (length bytes))
     ∙ remainder_more 8 (length bytes * 8) (plus (bits_of crc) (behind (byte ∷ bytes)))
     ∙ ap (λ (r : List Bool). remainder (length bytes * 8) (remainder 8 r)) (fold_in crc byte bytes)
-    ∙ ap (remainder (length bytes * 8)) (one_byte rule (bit_xor crc byte) bytes (xor_lt 8 crc byte h all.0))
-    ∙ steps_in rule bytes (get_or table (bit_xor crc byte) 0) (entry_small (bit_xor crc byte)) all.1
+    ∙ ap (remainder (length bytes * 8)) (one_byte (bit_xor crc byte) bytes (xor_lt 8 crc byte h all.0))
+    ∙ steps_in bytes (get_or table (bit_xor crc byte) 0) (entry_small (bit_xor crc byte)) all.1
 
 zero_plus : (bytes : List ℕ) → plus (bits_of 0) (behind bytes) ≡ behind bytes
 zero_plus bytes = let b = begins bytes in ap (plus (bits_of 0)) b.is ∙ sym b.is
 
--- where the table keeps its rule, what it gives is what the long division gives
-pub by_rule : table ≡ ruled → (bytes : List ℕ) → Bytes bytes → check_byte bytes ≡ crc_of bytes 0
-unfolding check_byte
-by_rule rule bytes all =
-    ap (λ (r : List Bool). byte_of (remainder (length bytes * 8) r)) (sym (zero_plus bytes))
-    ∙ ap byte_of (steps_in rule bytes 0 (lit< tt) all)
-    ∙ byte_of_bits (crc_of bytes 0) (crc_small bytes 0 (lit< tt))
-
 -- what the table gives is what the long division gives
 pub by_table : (bytes : List ℕ) → Bytes bytes → check_byte bytes ≡ crc_of bytes 0
-unfolding table check_byte
-by_table = by_rule refl
+unfolding check_byte
+by_table bytes all =
+    ap (λ (r : List Bool). byte_of (remainder (length bytes * 8) r)) (sym (zero_plus bytes))
+    ∙ ap byte_of (steps_in bytes 0 (lit< tt) all)
+    ∙ byte_of_bits (crc_of bytes 0) (crc_small bytes 0 (lit< tt))

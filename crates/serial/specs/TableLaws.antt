@@ -28,14 +28,8 @@ each_entry : map (λ (i : ℕ). get_or table i 0) (up_from 0 256) ≡ table
 unfolding table
 each_entry = refl
 
--- an entry is its rule's, where the table is the rule's list; which it is. (Each law that leans on the rule computes it again, so that a wrong
--- table refuses each by itself.)
-pub entry_by : table ≡ ruled → (i : ℕ) → i < 256 → get_or table i 0 ≡ check_byte (i ∷ [])
-entry_by rule i h = equal_at (λ (n : ℕ). get_or table n 0) (λ (n : ℕ). check_byte (n ∷ [])) 256 0 i (each_entry ∙ rule) zero-le h
-
 pub entry_at : (i : ℕ) → i < 256 → get_or table i 0 ≡ check_byte (i ∷ [])
-unfolding table check_byte
-entry_at = entry_by refl
+entry_at i h = equal_at (λ (n : ℕ). get_or table n 0) (λ (n : ℕ). check_byte (n ∷ [])) 256 0 i (each_entry ∙ table_ruled) zero-le h
 
 -- the entries are bytes
 abbrev all_small : List ℕ → Bool
