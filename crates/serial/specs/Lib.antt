@@ -4,6 +4,3 @@ pub mod Check
 pub mod Promises
 pub mod Outcomes
 pub mod Examples
-pub mod TableLaws
-pub mod DivisionLaws
-pub mod CheckLaws

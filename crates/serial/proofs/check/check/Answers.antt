@@ -1,5 +1,5 @@
 -- The table's way gives the check byte that the long division gives; it is held against the last byte.
-use Rattle.serial.specs.CheckLaws.{says_yes, says_no, says_fifteen}
+use Rattle.serial.proofs.CheckLaws.{says_yes, says_no, says_fifteen}
 use Rattle.serial.proofs.check.check.Goals as goal
 
 pub returns-then-serial-ne-SERIAL : goal.returns-then-serial-ne-SERIAL

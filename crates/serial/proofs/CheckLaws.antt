@@ -5,7 +5,7 @@ use borrow.Author.Tests.{eq-eqb, ne_eqb}
 use Rattle.parts.specs.Figures.{serial_bytes}
 use Rattle.serial.specs.Check.{divided, last_byte, checked}
 use Rattle.serial.specs.Division.{check_byte}
-use Rattle.serial.specs.DivisionLaws.{Bytes, by_table}
+use Rattle.serial.proofs.DivisionLaws.{Bytes, by_table}
 use Rattle.serial.specs.Promises.{CheckPromise}
 use Rattle.serial.specs.Table.{crc_of}
 use Rattle.serial.specs.declared.check.Checked.TheVariants.{Yes, No, WrongLength}

@@ -5,7 +5,7 @@ use Rattle.std.specs.Int.Bits.{bit_xor, differ, xor_step}
 use Rattle.std.proofs.lemmas.Nat.{xor_shr, xor_lt}
 use Rattle.serial.specs.Division.{divisor, plus_bit, plus, remainder, bit, bits_of, all_bits, byte_of, zeros, check_byte}
 use Rattle.serial.specs.Table.{table, crc_of, up_from}
-use Rattle.serial.specs.TableLaws.{equal_at, entry_at, entry_small, crc_small}
+use Rattle.serial.proofs.TableLaws.{equal_at, entry_at, entry_small, crc_small}
 
 -- ---- sums
 

@@ -1,0 +1,3 @@
+pub mod TableLaws
+pub mod DivisionLaws
+pub mod CheckLaws
