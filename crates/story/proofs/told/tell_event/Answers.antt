@@ -19,4 +19,4 @@ returns-clause-array_after c =
 pub returns-clause-prints : goal.returns-clause-prints
 returns-clause-prints c =
     accepted_text_lem c.args.turn _ _ c.event-answer.result _ c.event-answer.ensures.0 c.event-answer.ensures.1 _ c.if-answer-ne0.false c.after-after.ensures.value _ _ _
-          c.tell_accepted-at.ensures
+    c.tell_accepted-at.ensures

@@ -12,14 +12,13 @@ use borrow.Author.Rules.{rules}
 use Rattle.story.proofs.told.tell_items.Goals as goal
 
 pub loop-turn-preserved : goal.loop-turn-preserved
-loop-turn-preserved c =
-    (
-      search rules,
-      search rules,
-      left_number _ _ _ c.loop-turn.turn _ c.number_at.ensures c.loop-turn-test.true _ _ c.tell_item-turn.result _ _ _ c.in-Number.is
-          c.tell_item-turn.ensures.array_after c.tell_item-turn.ensures.prints
-          ∙ c.loop-turn.invariant.2,
-    )
+loop-turn-preserved c = (
+  search rules,
+  search rules,
+  left_number _ _ _ c.loop-turn.turn _ c.number_at.ensures c.loop-turn-test.true _ _ c.tell_item-turn.result _ _ _ c.in-Number.is
+      c.tell_item-turn.ensures.array_after c.tell_item-turn.ensures.prints
+      ∙ c.loop-turn.invariant.2,
+)
 
 pub returns-in-End : goal.returns-in-End
 returns-in-End c =

@@ -11,13 +11,12 @@ use borrow.Author.Rules.{rules}
 use Rattle.story.proofs.told.tell_short.Goals as goal
 
 pub loop-k-preserved : goal.loop-k-preserved
-loop-k-preserved c =
-    (
-      search rules,
-      search rules,
-      events_on _ _ _ _ c.loop-k.turn _ c.tell_event-turn.result _ c.events_of-events.ensures c.loop-k-test.true c.event_of.ensures c.if-turn-ne0.false c.tell_event-turn.ensures.array_after ∙ c.loop-k.invariant.2,
-      texts_on _ _ _ _ c.loop-k.turn _ c.tell_event-turn.result _ c.events_of-events.ensures c.loop-k-test.true c.event_of.ensures c.if-turn-ne0.false c.tell_event-turn.ensures.array_after _ _ _ c.tell_event-turn.ensures.prints ∙ c.loop-k.invariant.3,
-    )
+loop-k-preserved c = (
+  search rules,
+  search rules,
+  events_on _ _ _ _ c.loop-k.turn _ c.tell_event-turn.result _ c.events_of-events.ensures c.loop-k-test.true c.event_of.ensures c.if-turn-ne0.false c.tell_event-turn.ensures.array_after ∙ c.loop-k.invariant.2,
+  texts_on _ _ _ _ c.loop-k.turn _ c.tell_event-turn.result _ c.events_of-events.ensures c.loop-k-test.true c.event_of.ensures c.if-turn-ne0.false c.tell_event-turn.ensures.array_after _ _ _ c.tell_event-turn.ensures.prints ∙ c.loop-k.invariant.3,
+)
 
 pub returns-then-turn-ne0-clause-array_after : goal.returns-then-turn-ne0-clause-array_after
 returns-then-turn-ne0-clause-array_after c =
