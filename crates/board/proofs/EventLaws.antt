@@ -4,7 +4,7 @@ use Rattle.std.proofs.Common.{sym, subst, ◌∙◌, length-take-le, take_at, eq
 use Rattle.std.proofs.Math.Path.{ap}
 use Rattle.pins.specs.declared.state.State.{State}
 use Rattle.chip.specs.Event as chip
-use Rattle.chip.specs.RefusalLaws.{refusal_told, refusal_stays}
+use Rattle.chip.proofs.RefusalLaws.{refusal_told, refusal_stays}
 use Rattle.chip.specs.Run.{Chip, next}
 use Rattle.chip.specs.declared.event.Answer.{Answer}
 use Rattle.board.specs.Chips.{fitted, together, serials_together, pieces, chips_of, states, slice, with_chips}

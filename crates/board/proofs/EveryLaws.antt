@@ -8,7 +8,7 @@ use Rattle.std.proofs.Math.Seq.{take-length}
 use Rattle.pins.specs.declared.state.State.{State}
 use Rattle.chip.specs.Promises.{EventPromise}
 use Rattle.chip.specs.Run.{Chip, next}
-use Rattle.chip.specs.RunLaws.{next_length}
+use Rattle.chip.proofs.RunLaws.{next_length}
 use Rattle.chip.specs.declared.event.Answer.{Answer}
 use Rattle.board.specs.Chips.{piece_length, serial_length, sum, together, serials_together, pieces, states, slice}
 use Rattle.board.specs.Event.{every}

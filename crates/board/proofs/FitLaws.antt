@@ -5,7 +5,7 @@ use Rattle.std.proofs.Common.{arith, sym, ap, subst, ◌∙◌, length-append, t
 use Rattle.pins.specs.declared.state.State.{State}
 use Rattle.chip.specs.Run as chip
 use Rattle.chip.specs.Run.{Chip}
-use Rattle.chip.specs.RunLaws.{next_part, next_length}
+use Rattle.chip.proofs.RunLaws.{next_part, next_length}
 use Rattle.board.specs.Chips.{piece_length, serial_length, sum, together, serials_together, pieces, states, slice}
 use Rattle.board.specs.Event.{every, at}
 use Rattle.board.proofs.PieceLaws.{part_length, rest_long, none_left}

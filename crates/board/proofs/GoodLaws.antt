@@ -5,7 +5,7 @@ use Rattle.laws.specs.TestLaws.{both, left, right}
 use Rattle.pins.specs.Sound.{sound}
 use Rattle.pins.specs.declared.state.State.{State}
 use Rattle.chip.specs.Run.{Chip}
-use Rattle.chip.specs.RunLaws.{next_sound}
+use Rattle.chip.proofs.RunLaws.{next_sound}
 use Rattle.board.specs.Chips.{fitted, together, serials_together, pieces, states, slice, with_chips}
 use Rattle.board.specs.Checks.{is_own, no_board, all_sound, checks}
 use Rattle.board.proofs.CheckLaws.{few, checks_passed}

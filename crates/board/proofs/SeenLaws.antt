@@ -8,7 +8,7 @@ use Rattle.std.proofs.Math.Dec.{eqb}
 use Rattle.std.proofs.Math.ListN.{get_or}
 use borrow.Author.Tests.{eqb-true, eqb-false, ne_eqb, leb-true, lt-leb}
 use Rattle.chip.specs.Event as chip
-use Rattle.chip.specs.EventLaws as chip-event
+use Rattle.chip.proofs.EventLaws as chip-event
 use Rattle.chip.specs.Run as chip-run
 use Rattle.chip.specs.Run.{Chip}
 use Rattle.board.specs.Checks.{is_own}

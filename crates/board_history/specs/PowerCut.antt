@@ -10,7 +10,7 @@ use Rattle.std.proofs.Math.Seq.{take-length}
 use Rattle.parts.specs.Figures.{fits_serial}
 use Rattle.supply.specs.Power as chip
 use Rattle.chip.specs.Run as chip-run
-use Rattle.chip.specs.RunLaws.{run_serial}
+use Rattle.chip.proofs.RunLaws.{run_serial}
 use Rattle.chip.specs.Run.{Chip, powered_up}
 use Rattle.history.specs.History.{history}
 use Rattle.chip.specs.Event.{event}

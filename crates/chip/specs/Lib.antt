@@ -4,12 +4,5 @@ pub mod Loop
 pub mod Answers
 pub mod Promises
 pub mod Run
-pub mod EventLaws
-pub mod RefusalLaws
-pub mod SoundLaws
-pub mod RunLaws
-pub mod ListLaws
-pub mod ListRuns
-pub mod WatchLaws
 pub mod Outcomes
 pub mod Examples

@@ -11,7 +11,7 @@ use Rattle.pins.specs.declared.state.State.{State}
 use Rattle.chip.specs.Event.{event}
 use Rattle.supply.specs.Power.{power_up}
 use Rattle.chip.specs.Run.{Chip, from_power_up, powered_up, run}
-use Rattle.chip.specs.RunLaws.{run_serial}
+use Rattle.chip.proofs.RunLaws.{run_serial}
 use Rattle.supply.specs.PowerLaws.{power_one, power_masked, power_fits, power_state}
 use Rattle.history.specs.History.{World, history}
 use Rattle.history.specs.Wire.{rest, refusal, after_all}

@@ -29,7 +29,7 @@ use Rattle.report.specs.Record.{risen, shown_after, noted}
 use Rattle.report.specs.declared.record.Record.{Record}
 use Rattle.step.specs.Step.{accepted, live, step, written}
 use Rattle.chip.specs.Event.{answer_of, checks, event}
-use Rattle.chip.specs.EventLaws.{event_steps, checks_none}
+use Rattle.chip.proofs.EventLaws.{event_steps, checks_none}
 use Rattle.step.specs.StepLaws.{written_length}
 use Rattle.turns.specs.Bench.{Bench, after_answer, replay_serial, after_event}
 use Rattle.turns.specs.EventLaws.{serial_fits}

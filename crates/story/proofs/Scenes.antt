@@ -15,7 +15,7 @@ use Rattle.chip.specs.Answers.{paper}
 use Rattle.step.specs.Step.{written}
 use Rattle.chip.specs.Event.{event}
 use Rattle.chip.specs.Outcomes.{paper_sole}
-use Rattle.chip.specs.RefusalLaws.{refusal_stays}
+use Rattle.chip.proofs.RefusalLaws.{refusal_stays}
 use Rattle.chip.specs.declared.event.Answer.{Answer}
 use Rattle.report.specs.Record.{most_shown}
 use Rattle.turns.specs.Bench.{replay_serial, desk_of, on_page, bench_of}

@@ -10,7 +10,7 @@ use Rattle.chip.specs.Answers.{paper}
 use Rattle.step.specs.Step.{written}
 use Rattle.chip.specs.Event.{event}
 use Rattle.chip.specs.Outcomes.{paper_sole}
-use Rattle.chip.specs.RefusalLaws.{refusal_stays}
+use Rattle.chip.proofs.RefusalLaws.{refusal_stays}
 use Rattle.chip.specs.declared.event.Answer.{Answer}
 use Rattle.turns.specs.Bench.{Bench, after_events, stopped, select_text, closing, replay_serial, after_event, desk_of, on_page, bench_of}
 use Rattle.turns.specs.Page.{Page, page_of, printed}

@@ -19,7 +19,7 @@ use Rattle.step.specs.Step.{refused, written}
 use Rattle.chip.specs.Event.{answer_of, event, first, lend_refusal}
 use Rattle.chip.specs.Outcomes.{paper_sole}
 use Rattle.chip.specs.Promises.{EventPromise}
-use Rattle.chip.specs.RefusalLaws.{refusal_told}
+use Rattle.chip.proofs.RefusalLaws.{refusal_told}
 use Rattle.chip.specs.declared.event.Answer.{Answer}
 use Rattle.wear.specs.Count.{same_row, cycled, add_one, add_all, row_count, count_refusal, counted, counters_after}
 use Rattle.wear.specs.Promises.{CountPromise}

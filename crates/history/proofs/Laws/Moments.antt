@@ -10,11 +10,11 @@ use Rattle.parts.specs.FigureLaws.{Fair, fair}
 use Rattle.parts.specs.Figures.{figure_of, is_part, in_mask, fits_serial}
 use Rattle.pins.specs.Levels.{at_rest}
 use Rattle.step.specs.Step as chip
-use Rattle.chip.specs.EventLaws.{event_steps, checks_none}
+use Rattle.chip.proofs.EventLaws.{event_steps, checks_none}
 use Rattle.step.specs.Step.{step, live, written}
 use Rattle.chip.specs.Event.{answer_of, checks, event}
 use Rattle.chip.specs.Run.{Chip, powered_up, answered, next, run}
-use Rattle.chip.specs.RunLaws.{next_length, next_sound}
+use Rattle.chip.proofs.RunLaws.{next_length, next_sound}
 use Rattle.pins.specs.SoundLaws.{rest_sound}
 use Rattle.pins.specs.Sound.{sound}
 use Rattle.pins.specs.declared.hold.Hold.TheVariants.{High}

@@ -1,7 +1,7 @@
 -- What is refused of what is lent is the answer; else the loop goes over one code, and what it leaves is the event's answer.
 use mathlib.Core.Path.{ap, ◌∙◌}
 use Rattle.chip.specs.Answers.{paper}
-use Rattle.chip.specs.ListLaws.{single, unlent}
+use Rattle.chip.proofs.ListLaws.{single, unlent}
 use Rattle.chip.proofs.event.event.Goals as goal
 
 pub returns-then-refusal-eq0 : goal.returns-then-refusal-eq0

@@ -1,8 +1,8 @@
 -- Refused by the first checks: nothing is touched. Else the loop may go, and its course is the list's, field by field.
 use mathlib.Core.Path.{◌≡◌, ap}
 use Rattle.chip.specs.List.{Course}
-use Rattle.chip.specs.ListLaws.{call_passed, call_runs, call_stops}
-use Rattle.chip.specs.ListRuns.{Same}
+use Rattle.chip.proofs.ListLaws.{call_passed, call_runs, call_stops}
+use Rattle.chip.proofs.ListRuns.{Same}
 use Rattle.chip.proofs.list.events.Goals as goal
 
 fields : {c d : Course} → c ≡ d → Same c d

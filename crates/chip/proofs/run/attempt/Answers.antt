@@ -1,7 +1,7 @@
 -- Nothing is refused of the state and what is lent with it, so the code's test decides; a code that passes it is below 12.
 use mathlib.Core.Path.{sym, ◌∙◌}
 use borrow.Author.Tests.{le-leb, lt-leb}
-use Rattle.chip.specs.EventLaws.{tried_known, tried_unknown}
+use Rattle.chip.proofs.EventLaws.{tried_known, tried_unknown}
 use Rattle.chip.proofs.run.attempt.Goals as goal
 
 pub returns-then-code-ge12 : goal.returns-then-code-ge12

@@ -3,7 +3,7 @@
 use mathlib.Core.Path.{◌∙◌}
 use native.Mathlib.Nat.{le_antisymm}
 use native.Mathlib.Omega.{arith}
-use Rattle.chip.specs.ListLaws.{row_stays, lend_stays, loop_goes, loop_stops, loop_ends}
+use Rattle.chip.proofs.ListLaws.{row_stays, lend_stays, loop_goes, loop_stops, loop_ends}
 use borrow.Author.Rules.{rules}
 use Rattle.chip.proofs.run.go.Goals as goal
 

@@ -1,5 +1,5 @@
 -- The tests come in the order of the refusals; the row is the part's.
-use Rattle.chip.specs.EventLaws.{lend_unsound, lend_misfits, lend_unnumbered, lend_fine}
+use Rattle.chip.proofs.EventLaws.{lend_unsound, lend_misfits, lend_unnumbered, lend_fine}
 use Rattle.std.proofs.Common.{ap, not}
 use Rattle.chip.proofs.run.lend_refusal.Goals as goal
 

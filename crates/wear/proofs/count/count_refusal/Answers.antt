@@ -1,6 +1,6 @@
 -- The tests come in the order of the refusals; the row is the part's.
 use Rattle.std.proofs.Common.{refl, ap, not}
-use Rattle.chip.specs.EventLaws.{lend_misfits, lend_unnumbered, lend_fine}
+use Rattle.chip.proofs.EventLaws.{lend_misfits, lend_unnumbered, lend_fine}
 use Rattle.wear.proofs.CountLaws.{count_unsound, count_rowless, count_lends, count_misfits, count_fine}
 use Rattle.wear.proofs.count.count_refusal.Goals as goal
 

@@ -18,11 +18,11 @@ use Rattle.pins.specs.declared.state.State.{State}
 use Rattle.step.specs.Step.{written}
 use Rattle.chip.specs.Event.{answer_of, lend_refusal, tried, event}
 use Rattle.chip.specs.List.{Course, set_all_out, took_one, stops_at, turn, course, list_refusal, listed}
-use Rattle.chip.specs.RefusalLaws.{refusal_told, refusal_stays}
-use Rattle.chip.specs.EventLaws.{event_lends, lend_passed, lend_none}
+use Rattle.chip.proofs.RefusalLaws.{refusal_told, refusal_stays}
+use Rattle.chip.proofs.EventLaws.{event_lends, lend_passed, lend_none}
 use Rattle.step.specs.StepLaws.{written_length}
-use Rattle.chip.specs.RunLaws.{event_part}
-use Rattle.chip.specs.SoundLaws.{event_sound}
+use Rattle.chip.proofs.RunLaws.{event_part}
+use Rattle.chip.proofs.SoundLaws.{event_sound}
 use Rattle.chip.specs.declared.event.Answer.{Answer}
 use Rattle.step.specs.declared.step.Stepped.{Stepped}
 

@@ -4,7 +4,7 @@ use Rattle.parts.specs.Figures.{figure_of}
 use Rattle.pins.specs.Watch.{sees_rise}
 use Rattle.pins.specs.declared.state.State.{State}
 use Rattle.chip.specs.Event.{event}
-use Rattle.chip.specs.EventLaws.{accepted_steps}
+use Rattle.chip.proofs.EventLaws.{accepted_steps}
 use Rattle.step.specs.WatchLaws.{seen_rise, rise_exact}
 
 pub event_exact :

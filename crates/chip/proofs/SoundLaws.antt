@@ -2,7 +2,7 @@
 use Rattle.std.specs.Prelude.{ℕ, ◌≡◌, true, List, length, eqb}
 use Rattle.laws.specs.TestLaws.{choose}
 use Rattle.chip.specs.Event.{checks, event}
-use Rattle.chip.specs.EventLaws.{checks_passed, accepted_passed}
+use Rattle.chip.proofs.EventLaws.{checks_passed, accepted_passed}
 use Rattle.pins.specs.Sound.{sound}
 use Rattle.pins.specs.declared.state.State.{State}
 use Rattle.pins.specs.SoundLaws.{Sound}

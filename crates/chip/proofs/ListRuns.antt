@@ -13,10 +13,10 @@ use Rattle.select.specs.declared.notes.Note.{Note}
 use Rattle.step.specs.Step.{written}
 use Rattle.chip.specs.Event.{lend_refusal, event}
 use Rattle.chip.specs.List.{Course, set_all_out, took_one, stops_at, turn, course, list_refusal, listed}
-use Rattle.chip.specs.ListLaws.{course_stays, listed_runs, listed_stops, list_passed, list_none}
-use Rattle.chip.specs.EventLaws.{Lends, lend_passed, lend_none}
+use Rattle.chip.proofs.ListLaws.{course_stays, listed_runs, listed_stops, list_passed, list_none}
+use Rattle.chip.proofs.EventLaws.{Lends, lend_passed, lend_none}
 use Rattle.chip.specs.Run.{Chip, next, run}
-use Rattle.chip.specs.RunLaws.{run_part, run_length, run_sound}
+use Rattle.chip.proofs.RunLaws.{run_part, run_length, run_sound}
 use Rattle.chip.specs.declared.event.Answer.{Answer}
 
 -- what the list call tells: all but the note

@@ -15,7 +15,7 @@ use Rattle.pins.specs.declared.state.Moved.{Moved}
 use Rattle.step.specs.Step.{cs_to, sck_to, hold_to, cs_stayed, vdd_to, live, step}
 use Rattle.chip.specs.Event.{checks, event}
 use Rattle.chip.specs.Run.{Chip, next, run}
-use Rattle.chip.specs.SoundLaws.{event_sound}
+use Rattle.chip.proofs.SoundLaws.{event_sound}
 use Rattle.step.specs.declared.step.Stepped.{Stepped}
 use Rattle.step.specs.StepLaws.{written_length}
 
