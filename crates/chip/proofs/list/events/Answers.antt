@@ -1,5 +1,5 @@
 -- Refused by the first checks: nothing is touched. Else the loop may go, and its course is the list's, field by field.
-use mathlib.Core.Path.{◌≡◌, ap}
+use Rattle.std.proofs.Common.{◌≡◌, ap, arith}
 use Rattle.chip.specs.List.{Course}
 use Rattle.chip.proofs.ListLaws.{call_passed, call_runs, call_stops}
 use Rattle.chip.proofs.ListRuns.{Same}
@@ -16,11 +16,13 @@ fields e = (
 
 pub go-ran-requires-clause-serial_value : goal.go-ran-requires-clause-serial_value
 go-ran-requires-clause-serial_value c =
-    (call_passed _ _ _ c.args.codes.now c.args.levels.now c.list_refusal-refusal.ensures c.if-refusal-eq0.true).0
+    let none : c.list_refusal-refusal.result ≡ 0 = omega arith in
+    (call_passed _ _ _ c.args.codes.now c.args.levels.now c.list_refusal-refusal.ensures none).0
 
 pub go-ran-requires-clause-codes_in_bounds : goal.go-ran-requires-clause-codes_in_bounds
 go-ran-requires-clause-codes_in_bounds c =
-    (call_passed c.args.serial.now c.args.array.now c.args.state _ _ c.list_refusal-refusal.ensures c.if-refusal-eq0.true).1
+    let none : c.list_refusal-refusal.result ≡ 0 = omega arith in
+    (call_passed c.args.serial.now c.args.array.now c.args.state _ _ c.list_refusal-refusal.ensures none).1
 
 pub returns-then-refusal-eq0 : goal.returns-then-refusal-eq0
 returns-then-refusal-eq0 c =

@@ -1,8 +1,10 @@
 -- Each way out of `write_at` is the case of `writing` that its tests pick, and the slice goes by that answer: as it was
--- at a refusal, and else with the form that `put` stored in its place.
-use Rattle.std.proofs.Common.{◌≡◌, ◌+◌, ◌-◌, ◌≤◌, length, ap, ◌∙◌, arith, le-ltb, lt-ltb}
+-- at a refusal, and else with the form that `put` stored in its place. The facts are found by what they say, so that an exchange of
+-- the tests falls by what it answers.
+use Rattle.std.proofs.Common.{◌≡◌, ◌+◌, ◌-◌, ◌<◌, ◌≤◌, length, ap, ◌∙◌, arith, le-ltb, lt-ltb}
 use Rattle.std.proofs.lemmas.List.Edits.{sets-eq}
 use Rattle.trace.specs.Answers.{written_told, placed}
+use Rattle.trace.specs.Figures.{largest}
 use Rattle.trace.specs.Form.{form}
 use Rattle.trace.specs.Number.{writing}
 use Rattle.trace.specs.WriteLaws.{at_refusal, at_placing}
@@ -11,25 +13,32 @@ use Rattle.trace.proofs.number.write_at.Goals as goal
 pub returns-then-value-gt-LARGEST : goal.returns-then-value-gt-LARGEST
 unfolding writing
 returns-then-value-gt-LARGEST c =
-    at_refusal _ _ _ 8 (ap written_told c.unwritten.ensures) (simp (lt-ltb _ _ c.if-value-gt-LARGEST.true))
+    let large : largest < c.args.value = omega arith in
+    at_refusal _ _ _ 8 (cc) (simp (lt-ltb _ _ large))
 
 pub returns-then-at-s : goal.returns-then-at-s
 unfolding writing
 returns-then-at-s c =
-    at_refusal _ _ _ 9 (ap written_told c.unwritten-then-at-s.ensures) (simp (le-ltb _ _ c.if-value-gt-LARGEST.false, lt-ltb _ _ c.if-at-s.true))
+    let small : c.args.value ≤ largest = omega arith in
+    let beyond : length c.args.s.now < c.args.at = omega arith in
+    at_refusal _ _ _ 9 (cc) (simp (le-ltb _ _ small, lt-ltb _ _ beyond))
 
 pub returns-then-room-width : goal.returns-then-room-width
 unfolding writing
 returns-then-room-width c =
-    let short = simp c.width.ensures at c.if-room-width.true in
-    at_refusal _ _ _ 10 (ap written_told c.unwritten-then-room-width.ensures) (simp (le-ltb _ _ c.if-value-gt-LARGEST.false, le-ltb _ _ c.if-at-s.false, lt-ltb _ _ short))
+    let small : c.args.value ≤ largest = omega arith in
+    let within : c.args.at ≤ length c.args.s.now = omega arith in
+    let short : length c.args.s.now - c.args.at < length (form c.args.value) = omega (arith, c.width.ensures) in
+    at_refusal _ _ _ 10 (cc) (simp (le-ltb _ _ small, le-ltb _ _ within, lt-ltb _ _ short))
 
 pub returns : goal.returns
 unfolding writing
 returns c =
     let a = c.args in
     let put = c.put-next in
+    let small : a.value ≤ largest = omega arith in
+    let within : a.at ≤ length a.s.now = omega arith in
     let room : a.at + length (form a.value) ≤ length a.s.now = omega arith in
     let fit : length (form a.value) ≤ length a.s.now - a.at = omega arith in
-    let told : placed put.result ≡ writing a.s.now a.at a.value = simp (put.ensures.value, le-ltb _ _ c.if-value-gt-LARGEST.false, le-ltb _ _ c.if-at-s.false, le-ltb _ _ fit) in
+    let told : placed put.result ≡ writing a.s.now a.at a.value = simp (put.ensures.value, le-ltb _ _ small, le-ltb _ _ within, le-ltb _ _ fit) in
     (told, put.ensures.s_after ∙ sets-eq (form a.value) a.s.now a.at room ∙ at_placing a.s.now a.at a.value put.result told)
