@@ -132,7 +132,7 @@ pub(crate) fn run_whole(trace: &[u8], shown: &mut [u8; SHOWN], out: &mut [u8]) -
     ensures refusal_value { result.refusal ≡ (replayed trace.now shown.old).refusal }
     ensures stand_value { result.stand ≡ (replayed trace.now shown.old).stand }
     ensures shown_after { shown.new ≡ (replayed trace.now shown.old).shown }
-    ensures at_after { page_of out.new result.at
+    ensures page_after { page_of out.new result.at
         ≡ printed (page_of out.old 0) (replayed trace.now shown.old).text }
 {
     let lead = head_of(trace);

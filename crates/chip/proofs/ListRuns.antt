@@ -15,7 +15,7 @@ use Rattle.chip.specs.Event.{lend_refusal, event}
 use Rattle.chip.specs.List.{Course, set_all_out, took_one, stops_at, turn, course, list_refusal, listed}
 use Rattle.chip.proofs.ListLaws.{course_stays, listed_runs, listed_stops, list_passed, list_none}
 use Rattle.chip.proofs.EventLaws.{Lends, lend_passed, lend_none}
-use Rattle.chip.specs.Run.{Chip, next, run}
+use Rattle.chip.specs.Run.{Chip, course_chip, next, run}
 use Rattle.chip.proofs.RunLaws.{run_part, run_length, run_sound}
 use Rattle.chip.specs.declared.event.Answer.{Answer}
 
@@ -25,9 +25,6 @@ Same c d =
     (c.refusal ≡ d.refusal) × (c.count ≡ d.count) × (c.state ≡ d.state) × (c.array ≡ d.array) × (c.levels ≡ d.levels)
 
 module _ (serial : List ℕ) where
-  abbrev pub course_chip : Course → Chip
-  course_chip c = record { state = c.state; array = c.array; serial = serial }
-
   -- how many more a course accepts
   unfoldable more : Course → List ℕ → ℕ
   more c [] = 0
@@ -42,7 +39,7 @@ module _ (serial : List ℕ) where
 
   -- the count, and the chip that those events make
   abbrev Runs : Course → List ℕ → Type 0
-  Runs c codes = ((course serial c codes).count ≡ c.count + more c codes) × (course_chip (course serial c codes) ≡ run (course_chip c) (take (more c codes) codes))
+  Runs c codes = ((course serial c codes).count ≡ c.count + more c codes) × (course_chip serial (course serial c codes) ≡ run (course_chip serial c) (take (more c codes) codes))
 
   runs : (c : Course) (codes : List ℕ) → eqb c.refusal 0 ≡ true → Runs c codes
   unfolding more course run next
@@ -60,21 +57,21 @@ module _ (serial : List ℕ) where
 
       go : Runs on codes → (t : Bool) → eqb a.refusal 0 ≡ t
           → ((course serial (cond t on end) codes).count ≡ c.count + cond t (suc (more (cond t on end) codes)) 0)
-          × (course_chip (course serial (cond t on end) codes) ≡ run (course_chip c) (take (cond t (suc (more (cond t on end) codes)) 0) (code ∷ codes)))
+          × (course_chip serial (course serial (cond t on end) codes) ≡ run (course_chip serial c) (take (cond t (suc (more (cond t on end) codes)) 0) (code ∷ codes)))
       go later true e = (later.0 ∙ one_on c.count (more on codes), later.1)
-      go later false e = (ap (λ (d : Course). d.count) (course_stays serial end codes e) ∙ sym (rw add-zero), ap course_chip (course_stays serial end codes e))
+      go later false e = (ap (λ (d : Course). d.count) (course_stays serial end codes e) ∙ sym (rw add-zero), ap (course_chip serial) (course_stays serial end codes e))
 
   -- "the count of events accepted and the state and memory those made", at every outcome
   module _ (xs : List ℕ) (s : State) (codes levels : List ℕ) where
     abbrev chip : Chip
     chip = record { state = s; array = xs; serial = serial }
 
-    pub listed_run : course_chip (listed serial xs s codes levels) ≡ run chip (take (listed serial xs s codes levels).count codes)
+    pub listed_run : course_chip serial (listed serial xs s codes levels) ≡ run chip (take (listed serial xs s codes levels).count codes)
     unfolding run
     listed_run = go (eqb (list_refusal s (length xs) (length serial) (length codes) (length levels)) 0) refl
       where
         Goal : Course → Type 0
-        Goal c = course_chip c ≡ run chip (take c.count codes)
+        Goal c = course_chip serial c ≡ run chip (take c.count codes)
 
         ran : Goal (course serial (set_all_out 0 s xs levels) codes)
         ran =

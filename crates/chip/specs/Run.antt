@@ -5,6 +5,7 @@ use Rattle.pins.specs.Levels.{at_rest}
 use Rattle.pins.specs.declared.state.State.{State}
 use Rattle.step.specs.Step.{written}
 use Rattle.chip.specs.Event.{event}
+use Rattle.chip.specs.List.{Course}
 use Rattle.supply.specs.Power.{power_up}
 use Rattle.chip.specs.declared.event.Answer.{Answer}
 
@@ -13,6 +14,10 @@ pub record Chip : Type 0 where
   pub state : State
   pub array : List ℕ
   pub serial : List ℕ
+
+-- what a list leaves of it
+abbrev pub course_chip : List ℕ → Course → Chip
+course_chip serial c = record { state = c.state; array = c.array; serial = serial }
 
 abbrev pub answered : Chip → Answer → Chip
 answered c a = record { state = a.state; array = written a.note c.array; serial = c.serial }

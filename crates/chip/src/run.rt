@@ -43,8 +43,8 @@ pub(crate) fn lend_refusal(state: State, len: usize, serial: usize) -> u8
 
 // One event where nothing is refused of the state and what is lent with it: 5 is all that is left to check before the step.
 fn attempt(f: Figure, state: State, array: &[u8], serial: &[u8], code: u64) -> Stepped
-    requires f_value { f ≡ figure_of state.part }
-    requires serial_value { lend_refusal state (length array.now) (length serial.now) ≡ 0 }
+    requires parts_row { f ≡ figure_of state.part }
+    requires nothing_refused { lend_refusal state (length array.now) (length serial.now) ≡ 0 }
     ensures { result ≡ tried f serial.now array.now state code }
 {
     if 12 <= code {
@@ -74,7 +74,7 @@ pub(crate) fn go(
     codes: &[u64],
     levels: &mut [u8],
 ) -> Ran
-    requires serial_value { lend_refusal state (length array.old) (length serial.now) ≡ 0 }
+    requires nothing_refused { lend_refusal state (length array.old) (length serial.now) ≡ 0 }
     requires codes_in_bounds { length codes.now ≤ length levels.old }
     ensures { course_of result array.new levels.new
         ≡ course serial.now (set_all_out 0 state array.old levels.old) codes.now }

@@ -4,9 +4,9 @@ use Rattle.std.specs.Prelude.{ℕ, true, List, [], ◌∷◌, ◌++◌, ◌≡�
 use Rattle.std.proofs.Common.{sym, ap, ◌∙◌}
 use Rattle.std.proofs.Math.Seq.{take-length}
 use Rattle.parts.specs.Figures.{fits_serial}
-use Rattle.chip.proofs.ListRuns.{course_chip, listed_run}
+use Rattle.chip.proofs.ListRuns.{listed_run}
 use Rattle.supply.specs.Power.{power_up}
-use Rattle.chip.specs.Run.{Chip, from_power_up, powered_up, run}
+use Rattle.chip.specs.Run.{Chip, course_chip, from_power_up, powered_up, run}
 use Rattle.history.specs.History.{history}
 use Rattle.history.proofs.Laws.Moments.{run_append}
 use Rattle.history.proofs.PowerCut.{every_moment, power_cut}

@@ -2,8 +2,7 @@
 -- cut leaves after them is proved in proofs/Lists. Assumes nothing.
 use Rattle.std.specs.Prelude.{ℕ, List, [], ◌∷◌, ◌++◌, take}
 use Rattle.chip.specs.List.{Course, listed}
-use Rattle.chip.proofs.ListRuns.{course_chip}
-use Rattle.chip.specs.Run.{Chip}
+use Rattle.chip.specs.Run.{Chip, course_chip}
 
 -- one call: its codes, and what the answers held
 pub record Sending : Type 0 where

@@ -1,2 +1,2 @@
-// The history of a list of events, and what a power cut leaves: all of it stands in specs/.
+// The history of a list of events, in specs/, and what a power cut leaves, in proofs/.
 #![tactic(auto)]

@@ -1,4 +1,4 @@
-// The story power_cut.spell, in examples/: its report, and the story told.
+// The story power-cut.spell, in examples/: its report, and the story told.
 #![tactic(auto)]
 
 use stories::tell_input;

@@ -17,9 +17,9 @@ use turns::turn::REPLAY_SERIAL;
 // A READ: so many bytes were shown, and bit 7 of the next one stands on SO.
 fn read_on(stand: Stand, array: &[u8], at: usize, bytes: u64) -> Stand
     requires at_in_bounds { at < length array.now }
-    requires bytes_bound { at + bytes ≤ most }
-    requires bytes_bound_2 { stand.told.clocks + bytes * 8 ≤ most }
-    requires bytes_bound_3 { stand.told.shown + bytes ≤ most }
+    requires place_fits { at + bytes ≤ most }
+    requires clocks_fit { stand.told.clocks + bytes * 8 ≤ most }
+    requires shown_fits { stand.told.shown + bytes ≤ most }
     requires stored_bound { stand.told.stored + 0 ≤ most }
     ensures { result ≡ read_on stand array.now at bytes }
 {
@@ -49,10 +49,10 @@ pub(crate) fn skip_read(
     bit: u16,
     at: usize,
 ) -> Skipped
-    requires array_value { steady stand.chip (length array.now) ≡ true }
-    requires chip_value { idle stand.chip ≡ false }
-    requires pulses_value { counts_on stand.told pulses ≡ true }
-    requires stage_value { stand.chip.stage ≡ ArrayOut level bit at }
+    requires steady_state { steady stand.chip (length array.now) ≡ true }
+    requires not_idle { idle stand.chip ≡ false }
+    requires counts_fit { counts_on stand.told pulses ≡ true }
+    requires in_stage { stand.chip.stage ≡ ArrayOut level bit at }
     ensures left_le_pulses { result.left ≤ pulses }
     ensures skips { Skips stand array.now pulses result array.now }
 {

@@ -11,9 +11,9 @@ use turns::stand::Stand;
 
 // In an open select.
 fn skip_open(stand: Stand, array: &mut [u8], pulses: u64) -> Skipped
-    requires array_value { steady stand.chip (length array.old) ≡ true }
-    requires chip_value { idle stand.chip ≡ false }
-    requires pulses_value { counts_on stand.told pulses ≡ true }
+    requires steady_state { steady stand.chip (length array.old) ≡ true }
+    requires not_idle { idle stand.chip ≡ false }
+    requires counts_fit { counts_on stand.told pulses ≡ true }
     ensures left_le_pulses { result.left ≤ pulses }
     ensures skips { Skips stand array.old pulses result array.new }
 {

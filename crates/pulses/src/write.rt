@@ -60,7 +60,7 @@ fn stored_before(size: u64, limit: u64, place: u64) -> u64
 fn stored_in(size: u64, limit: u64, at: u64, bytes: u64) -> u64
     requires size_nonzero { 0 < size }
     requires limit_le_size { limit ≤ size }
-    requires bytes_bound { at + bytes ≤ most }
+    requires place_fits { at + bytes ≤ most }
     ensures value { result ≡ stored_in size limit at bytes }
     ensures upper_bound { result ≤ bytes }
 {
@@ -135,11 +135,11 @@ fn write_bytes(chip: State, array: &mut [u8], at: usize, bytes: u64)
 fn write_on(stand: Stand, size: usize, last: u32, at: usize, bytes: u64) -> Stand
     requires at_lt_size { at < size }
     requires size_bound { size ≤ 0xFFFFFFFF }
-    requires chip_bound { store_limit stand.chip ≤ size }
-    requires bytes_bound { at + bytes ≤ most }
-    requires bytes_bound_2 { stand.told.clocks + bytes * 8 ≤ most }
+    requires limit_le_size { store_limit stand.chip ≤ size }
+    requires place_fits { at + bytes ≤ most }
+    requires clocks_fit { stand.told.clocks + bytes * 8 ≤ most }
     requires shown_bound { stand.told.shown + 0 ≤ most }
-    requires bytes_bound_3 { stand.told.stored + bytes ≤ most }
+    requires stored_fits { stand.told.stored + bytes ≤ most }
     ensures { result ≡ write_on stand size last at bytes }
 {
     let chip = stand.chip;
@@ -172,10 +172,10 @@ pub(crate) fn skip_write(
     last: u32,
     at: usize,
 ) -> Skipped
-    requires array_value { steady stand.chip (length array.old) ≡ true }
-    requires chip_value { idle stand.chip ≡ false }
-    requires pulses_value { counts_on stand.told pulses ≡ true }
-    requires stage_value { stand.chip.stage ≡ Writing came shift last at }
+    requires steady_state { steady stand.chip (length array.old) ≡ true }
+    requires not_idle { idle stand.chip ≡ false }
+    requires counts_fit { counts_on stand.told pulses ≡ true }
+    requires in_stage { stand.chip.stage ≡ Writing came shift last at }
     ensures left_le_pulses { result.left ≤ pulses }
     ensures skips { Skips stand array.old pulses result array.new }
 {

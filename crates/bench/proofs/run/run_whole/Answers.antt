@@ -18,8 +18,8 @@ returns-clause-stand_value c = (whole _ _ _ _ _ _ (replayed_led _ _ _ _ _ _ c.he
 pub returns-clause-shown_after : goal.returns-clause-shown_after
 returns-clause-shown_after c = (whole _ _ _ _ _ _ (replayed_led _ _ _ _ _ _ c.head_of-lead.ensures c.if-lead-ne0.false c.figure_of-size.ensures c.run.ensures)).1.1.0
 
-pub returns-clause-at_after : goal.returns-clause-at_after
-returns-clause-at_after c = (whole _ _ _ _ _ _ (replayed_led _ _ _ _ _ _ c.head_of-lead.ensures c.if-lead-ne0.false c.figure_of-size.ensures c.run.ensures)).1.1.1
+pub returns-clause-page_after : goal.returns-clause-page_after
+returns-clause-page_after c = (whole _ _ _ _ _ _ (replayed_led _ _ _ _ _ _ c.head_of-lead.ensures c.if-lead-ne0.false c.figure_of-size.ensures c.run.ensures)).1.1.1
 
 pub returns-then-lead-ne0-clause-refusal_value : goal.returns-then-lead-ne0-clause-refusal_value
 returns-then-lead-ne0-clause-refusal_value c =
@@ -33,8 +33,8 @@ pub returns-then-lead-ne0-clause-shown_after : goal.returns-then-lead-ne0-clause
 returns-then-lead-ne0-clause-shown_after c =
     (whole _ _ _ _ _ _ (replayed_not c.args.trace.now c.args.shown.now c.args.out.now _ _ _ c.head_of-lead.ensures c.if-lead-ne0.true c.at_rest.ensures c.new.ensures)).1.1.0
 
-pub returns-then-lead-ne0-clause-at_after : goal.returns-then-lead-ne0-clause-at_after
-returns-then-lead-ne0-clause-at_after c =
+pub returns-then-lead-ne0-clause-page_after : goal.returns-then-lead-ne0-clause-page_after
+returns-then-lead-ne0-clause-page_after c =
     (whole _ _ _ _ _ _ (replayed_not c.args.trace.now c.args.shown.now c.args.out.now _ _ _ c.head_of-lead.ensures c.if-lead-ne0.true c.at_rest.ensures c.new.ensures)).1.1.1
 
 pub slice_bounds-array-end : goal.slice_bounds-array-end

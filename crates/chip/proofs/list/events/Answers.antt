@@ -14,8 +14,8 @@ fields e = (
   ap (λ (c : Course). c.levels) e,
 )
 
-pub go-ran-requires-clause-serial_value : goal.go-ran-requires-clause-serial_value
-go-ran-requires-clause-serial_value c =
+pub go-ran-requires-clause-nothing_refused : goal.go-ran-requires-clause-nothing_refused
+go-ran-requires-clause-nothing_refused c =
     let none : c.list_refusal-refusal.result ≡ 0 = omega arith in
     (call_passed _ _ _ c.args.codes.now c.args.levels.now c.list_refusal-refusal.ensures none).0
 

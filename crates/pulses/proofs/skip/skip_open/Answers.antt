@@ -1,9 +1,9 @@
--- A select that is over counts its clocks, a READ shows whole bytes, a WRITE stores them; nothing is skipped in the others.
+-- A select that is over counts its clocks, and the sum fits.
 use Rattle.pulses.specs.SkipLaws.{over_room, skip_over}
 use Rattle.pulses.proofs.skip.skip_open.Goals as goal
 
 pub returns-in-Over-clause-skips : goal.returns-in-Over-clause-skips
-returns-in-Over-clause-skips c = (skip_over _ _ c.requires.array_value c.requires.chip_value _ _ _ c.requires.pulses_value c.in-Over.is c.count_more-told.ensures).1
+returns-in-Over-clause-skips c = (skip_over _ _ c.requires.steady_state c.requires.not_idle _ _ _ c.requires.counts_fit c.in-Over.is c.count_more-told.ensures).1
 
 pub count_more-told-requires-clause-clocks_bound : goal.count_more-told-requires-clause-clocks_bound
-count_more-told-requires-clause-clocks_bound c = (over_room _ _ c.requires.pulses_value).0
+count_more-told-requires-clause-clocks_bound c = (over_room _ _ c.requires.counts_fit).0

@@ -1,4 +1,4 @@
--- By whether the word is a number of pulses; then the item is a trace number.
+-- A number of pulses is small, so that the item's number does not wrap.
 use Rattle.std.proofs.Common.{arith}
 use Rattle.sayings.specs.SaysLaws.{bounded, pulses_fit}
 use Rattle.sayings.proofs.says.hear_idle.Goals as goal

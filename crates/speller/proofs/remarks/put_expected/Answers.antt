@@ -1,4 +1,4 @@
--- In each arm the text that is put is the definition's.
+-- In these arms the text that is put is the definition's; the others are found.
 use Rattle.speller.specs.Remarks.{expected_text}
 use Rattle.speller.proofs.remarks.put_expected.Goals as goal
 

@@ -1,4 +1,4 @@
--- A line for each note.
+-- Nothing is printed where there is no note.
 use Rattle.words.specs.Lines.{note_text}
 use Rattle.words.proofs.Pages.{none}
 use Rattle.words.proofs.lines.print_note.Goals as goal
