@@ -1,6 +1,6 @@
 -- What a bench takes for a seen rise is one: SCK rises, with /HOLD high and a select open, and the select takes SI. No
 -- other event is one, and no other takes a bit. Event 3 by its tests, the others pin by pin. Assumes nothing.
-use Rattle.std.specs.Prelude.{ℕ, ◌/◌, ◌%◌, ◌≡◌, ◌&&◌, List}
+use Rattle.std.specs.Prelude.{ℕ, ◌/◌, ◌%◌, ◌≡◌, ◌&&◌, List, Result, Ok}
 use Rattle.std.proofs.Common.{arith, sym, subst, ◌∙◌, eqb-true}
 use Rattle.std.proofs.Math.Path.{refl, ap}
 use Rattle.std.proofs.Math.Bool.{Bool, true, false, cond, not}
@@ -19,8 +19,8 @@ use Rattle.pins.specs.Levels.{hold_high, cs_level}
 use Rattle.pins.specs.Watch.{is_open, sees_rise}
 use Rattle.pins.specs.declared.state.State.{State}
 use Rattle.pins.specs.declared.state.Moved.{Moved}
-use Rattle.step.specs.Step.{accepted, cs_to, sck_to, hold_to, cs_stayed, vdd_to, live, dark, step}
-use Rattle.step.specs.declared.step.Stepped.{Stepped}
+use Rattle.refusals.specs.declared.refusal.Refusal.{Refusal}
+use Rattle.step.specs.Step.{cs_to, sck_to, hold_to, cs_stayed, vdd_to, live, dark, step, state_after}
 
 -- the stage after an event that takes no bit: as it was, or a select opened or closed, or the supply was cut, or a fall of SCK
 pub data Unclocked (f : Figure) (serial xs : List ℕ) (s : State) : Stage → Type 0 where
@@ -65,13 +65,13 @@ choose_on P true p q = p refl
 choose_on P false p q = q
 
 module _ (f : Figure) (serial xs : List ℕ) (s : State) where
-  pub rise_seen : (code : ℕ) → sees_rise s code ≡ true → step f serial xs s code ≡ accepted (rose s (rise f (seen_by s) s.stage))
+  pub rise_seen : (code : ℕ) → sees_rise s code ≡ true → step f serial xs s code ≡ Ok (rose s (rise f (seen_by s) s.stage))
   unfolding sees_rise step live sck_rise
   rise_seen code h =
       ap (step f serial xs s) three
       ∙ ap (λ (p : Bool). cond p (live f serial xs s 1 true) (dark s 3)) on
-      ∙ ap (λ (k : Bool). accepted (cond k (silent s) (sck_rise f s))) low
-      ∙ ap (λ (k : Bool). accepted (cond k (rose s (rise f (seen_by s) s.stage)) (silent (with_sck s true)))) off
+      ∙ ap (λ (k : Bool). Ok (cond k (silent s) (sck_rise f s))) low
+      ∙ ap (λ (k : Bool). Ok (cond k (rose s (rise f (seen_by s) s.stage)) (silent (with_sck s true)))) off
     where
       a : Bool
       a = s.power && hold_high s.hold
@@ -98,8 +98,8 @@ module _ (f : Figure) (serial xs : List ℕ) (s : State) where
   abbrev Moves : Moved → Type 0
   Moves m = Passes m.state
 
-  abbrev Steps : Stepped → Type 0
-  Steps t = Passes t.state
+  abbrev Steps : Result Moved Refusal → Type 0
+  Steps t = Passes (state_after s t)
 
   stays : Passes s
   stays = (still s.sck, same)
@@ -156,18 +156,18 @@ module _ (f : Figure) (serial xs : List ℕ) (s : State) where
       falls_only false e p = sck_passes
 
   -- event 3, by the power, the level of SCK and whether /HOLD is high
-  abbrev raised : Bool → Bool → Bool → Stepped
+  abbrev raised : Bool → Bool → Bool → Result Moved Refusal
   raised p k h =
       cond p
-      (accepted (cond k (silent s) (cond h (rose s (rise f (seen_by s) s.stage)) (silent (with_sck s true)))))
-      (accepted (silent s))
+      (Ok (cond k (silent s) (cond h (rose s (rise f (seen_by s) s.stage)) (silent (with_sck s true)))))
+      (Ok (silent s))
 
   -- "Each seen rise of SCK in an open select", no more and no less
-  pub rise_exact : (code : ℕ) → sees_rise s code ≡ seen_rise s (step f serial xs s code).state
+  pub rise_exact : (code : ℕ) → sees_rise s code ≡ seen_rise s (state_after s (step f serial xs s code))
   unfolding sees_rise step live sck_rise
   rise_exact code = go (eqb code 3) refl
     where
-      three : (p k h o : Bool) → s.sck ≡ k → (p && h && o && not k && true) ≡ (not k && (raised p k h).state.sck && h && o)
+      three : (p k h o : Bool) → s.sck ≡ k → (p && h && o && not k && true) ≡ (not k && (state_after s (raised p k h)).sck && h && o)
       three false true h o e = refl
       three false false h o e = rw e
       three true true false o e = refl
@@ -177,9 +177,9 @@ module _ (f : Figure) (serial xs : List ℕ) (s : State) where
       three true false true false e = refl
       three true false true true e = refl
 
-      go : (t : Bool) → eqb code 3 ≡ t → sees_rise s code ≡ seen_rise s (step f serial xs s code).state
+      go : (t : Bool) → eqb code 3 ≡ t → sees_rise s code ≡ seen_rise s (state_after s (step f serial xs s code))
       go true e =
-          subst (λ (k : ℕ). sees_rise s k ≡ seen_rise s (step f serial xs s k).state) (sym (eqb-true code 3 e))
+          subst (λ (k : ℕ). sees_rise s k ≡ seen_rise s (state_after s (step f serial xs s k))) (sym (eqb-true code 3 e))
           (three s.power s.sck (hold_high s.hold) (is_open s) refl)
       go false e =
           ap (λ (t : Bool). s.power && hold_high s.hold && is_open s && not s.sck && t) e
@@ -187,20 +187,20 @@ module _ (f : Figure) (serial xs : List ℕ) (s : State) where
           ∙ sym (ap (λ (t : Bool). t && hold_high s.hold && is_open s) (others_pass code e).0)
 
   -- where it is none, no bit is taken
-  pub unseen_takes_none : (code : ℕ) → sees_rise s code ≡ false → Unclocked f serial xs s (step f serial xs s code).state.stage
+  pub unseen_takes_none : (code : ℕ) → sees_rise s code ≡ false → Unclocked f serial xs s (state_after s (step f serial xs s code)).stage
   unfolding sees_rise is_open step live sck_rise rise
   unseen_takes_none code = go (eqb code 3) refl
     where
       three :
           (p k h d : Bool) → is_closed s.stage ≡ d → (p && h && not d && not k && true) ≡ false
-          → Unclocked f serial xs s (raised p k h).state.stage
+          → Unclocked f serial xs s (state_after s (raised p k h)).stage
       three false k h d e n = same
       three true true h d e n = same
       three true false false d e n = same
       three true false true true e n = rw (rise_closed f (seen_by s) s.stage e) same
       three true false true false e n = absurd (eqb-false 1 0 refl cc)
 
-      go : (t : Bool) → eqb code 3 ≡ t → sees_rise s code ≡ false → Unclocked f serial xs s (step f serial xs s code).state.stage
+      go : (t : Bool) → eqb code 3 ≡ t → sees_rise s code ≡ false → Unclocked f serial xs s (state_after s (step f serial xs s code)).stage
       go true e h =
           rw (eqb-true code 3 e)
           (three s.power s.sck (hold_high s.hold) (is_closed s.stage) refl (rw (eqb-true code 3 e) at h))

@@ -1,53 +1,25 @@
 // The step of one event: what it does where the checks 4, 2, 15 and 5 let it through.
 ghost use Rattle.std.specs.Prelude.{true, false, [], ◌≡◌, ◌/◌, ◌%◌, eqb};
-ghost use Rattle.step.specs.Step.{accepted, refused, cs_to, sck_to, cs_stayed, hold_up, hold_to, vdd_to, live, dark, step, written};
+ghost use Rattle.step.specs.Step.{cs_to, sck_to, cs_stayed, hold_up, hold_to, vdd_to, live, dark, step, written};
 ghost use Rattle.pins.specs.Edges.{si_to, wp_to};
 
 use parts::figures::Figure;
 use pins::hold::hold_high;
 use pins::state::{Moved, State};
+use refusals::refusal::Refusal;
 use select::notes::Note;
 use stages::close::is_closed;
-
-// What an event comes to; SO is then asked of the state.
-#[derive(Clone, Copy)]
-pub struct Stepped {
-    pub refusal: u8,
-    pub note: Note,
-    pub state: State,
-}
-
-fn accept(moved: Moved) -> Stepped
-    ensures { result ≡ accepted moved }
-{
-    let state = moved.state;
-    let note = moved.note;
-    Stepped {
-        refusal: 0,
-        note,
-        state,
-    }
-}
-
-pub fn refuse(refusal: u8, state: State) -> Stepped
-    ensures { result ≡ refused refusal state }
-{
-    Stepped {
-        refusal,
-        note: Note::Nothing,
-        state,
-    }
-}
 
 // Each pin set to a level. "Setting a pin to the level it has is accepted and has no effect."
 fn cs_to(state: State, f: Figure, level: bool) -> Moved
     ensures { result ≡ cs_to f state level }
 {
-    let cs = state.cs();
-    if level {
-        if cs { state.silent() } else { state.cs_rise() }
+    if level == state.cs() {
+        state.silent()
+    } else if level {
+        state.cs_rise()
     } else {
-        if cs { state.cs_fall(f) } else { state.silent() }
+        state.cs_fall(f)
     }
 }
 
@@ -83,41 +55,30 @@ fn cs_stayed(state: State) -> bool
 }
 
 // /HOLD, low so far, set high.
-fn hold_up(state: State) -> Stepped
+fn hold_up(state: State) -> Result<Moved, Refusal>
     ensures { result ≡ hold_up state }
 {
     if state.sck {
-        refuse(6, state)
+        Err(Refusal::HoldWithSck)
+    } else if cs_stayed(state) {
+        Ok(state.hold_rise())
     } else {
-        if cs_stayed(state) {
-            accept(state.hold_rise())
-        } else {
-            refuse(7, state)
-        }
+        Err(Refusal::HoldWithCs)
     }
 }
 
-fn hold_to(state: State, level: bool) -> Stepped
+fn hold_to(state: State, level: bool) -> Result<Moved, Refusal>
     ensures { result ≡ hold_to state level }
 {
-    let hold = state.hold;
-    let off = hold_high(hold);
-    if level {
-        if off {
-            accept(state.silent())
-        } else {
-            hold_up(state)
-        }
+    let off = hold_high(state.hold);
+    if level == off {
+        Ok(state.silent())
+    } else if level {
+        hold_up(state)
+    } else if state.sck {
+        Err(Refusal::HoldWithSck)
     } else {
-        if off {
-            if state.sck {
-                refuse(6, state)
-            } else {
-                accept(state.hold_fall())
-            }
-        } else {
-            accept(state.silent())
-        }
+        Ok(state.hold_fall())
     }
 }
 
@@ -154,40 +115,46 @@ fn vdd_to(state: State, level: bool) -> Moved
 
 // An event with power on. By the code and not by pin and level, so that each edge of SCK has one way (docs/SPEED.md).
 #[tactic(auto, unfolding(crate::specs::Step::live))]
-fn live(f: Figure, state: State, array: &[u8], serial: &[u8], code: u8) -> Stepped
+fn live(f: Figure, state: State, array: &[u8], serial: &[u8], code: u8) -> Result<Moved, Refusal>
     ensures { result ≡ live f serial.now array.now state (code / 2) (eqb (code % 2) 1) }
 {
     match code {
-        0 | 1 => accept(cs_to(state, f, code == 1)),
-        2 => accept(sck_low(state, f, array, serial)),
-        3 => accept(sck_high(state, f)),
-        4 | 5 => accept(si_to(state, code == 5)),
+        0 | 1 => Ok(cs_to(state, f, code == 1)),
+        2 => Ok(sck_low(state, f, array, serial)),
+        3 => Ok(sck_high(state, f)),
+        4 | 5 => Ok(si_to(state, code == 5)),
         6 | 7 => hold_to(state, code == 7),
-        8 | 9 => accept(wp_to(state, code == 9)),
-        _ => accept(vdd_to(state, code % 2 == 1)),
+        8 | 9 => Ok(wp_to(state, code == 9)),
+        _ => Ok(vdd_to(state, code % 2 == 1)),
     }
 }
 
 // An event with power off.
-fn dark(state: State, code: u8) -> Stepped
-    ensures { result ≡ dark state code }
+fn dark(state: State, code: u8) -> Moved
+    ensures { Ok result ≡ dark state code }
 {
     if code == 11 {
-        accept(state.vdd_rise())
+        state.vdd_rise()
     } else {
-        accept(state.silent())
+        state.silent()
     }
 }
 
 // An event that passed the checks 4, 2, 15 and 5. It is pure, and called at one place, the loop over events.
 #[tactic(auto, unfolding(crate::specs::Step::step))]
-pub fn step(f: Figure, state: State, array: &[u8], serial: &[u8], code: u8) -> Stepped
+pub fn step(
+    f: Figure,
+    state: State,
+    array: &[u8],
+    serial: &[u8],
+    code: u8,
+) -> Result<Moved, Refusal>
     ensures { result ≡ step f serial.now array.now state code }
 {
     if state.power {
         live(f, state, array, serial, code)
     } else {
-        dark(state, code)
+        Ok(dark(state, code))
     }
 }
 
@@ -196,12 +163,9 @@ pub fn step(f: Figure, state: State, array: &[u8], serial: &[u8], code: u8) -> S
 pub fn store(array: &mut [u8], note: Note)
     ensures { array.new ≡ written note array.old }
 {
-    match note {
-        Note::Stored(at, byte) => {
-            if at < array.len() {
-                array[at] = byte;
-            }
+    if let Note::Stored(at, byte) = note {
+        if at < array.len() {
+            array[at] = byte;
         }
-        _ => {}
     }
 }
