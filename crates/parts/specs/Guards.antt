@@ -1,11 +1,9 @@
 -- "Who may write" (document 01). Assumes nothing.
-use Rattle.std.specs.Prelude.{ℕ, ◌-◌, ◌/◌, Bool, true, false, cond, not, ◌&&◌, eqb, leb}
+use Rattle.std.specs.Prelude.{ℕ, ◌-◌, ◌/◌, Bool, true, false, cond, not, ◌&&◌, eqb, leb, Result, Ok, Err}
 use Rattle.std.specs.Int.Bits.{bit_and}
 use Rattle.parts.specs.declared.figures.Figure.{Figure}
 use Rattle.parts.specs.declared.guards.Reason.{Reason}
 use Rattle.parts.specs.declared.guards.Reason.TheVariants.{LatchOff, Protect, Block}
-use Rattle.parts.specs.declared.guards.Verdict.{Verdict}
-use Rattle.parts.specs.declared.guards.Verdict.TheVariants.{Allowed, HeldBack}
 
 -- "Reasons: 1 latch off, 2 /WP, 3 block"
 abbrev pub reason_number : Reason → ℕ
@@ -30,18 +28,18 @@ first_protected f kept = f.size - guarded (is_set kept f.bp1) (is_set kept f.bp0
 
 -- "The latch must be set. Parts 1 and 2: /WP low holds back the array and the status byte." And the blocks; "the
 --  lowest that applies is given".
-unfoldable pub may_store : Figure → Bool → ℕ → Bool → ℕ → Verdict
+unfoldable pub may_store : Figure → Bool → ℕ → Bool → ℕ → Result (Unit {0}) Reason
 may_store f latch kept wp at =
-    cond (not latch) (HeldBack LatchOff)
-    (cond (f.guards_array && not wp) (HeldBack Protect)
-    (cond (leb (first_protected f kept) at) (HeldBack Block)
-    Allowed))
+    cond (not latch) (Err LatchOff)
+    (cond (f.guards_array && not wp) (Err Protect)
+    (cond (leb (first_protected f kept) at) (Err Block)
+    (Ok tt)))
 
 -- "The latch must be set. Parts 1 and 2: /WP low holds back .. the status byte. Part 3: /WP low with WPEN set holds back
 --  the status byte only." On parts 1 and 2 the row names no such bit, and none need be set. "Blocks don't guard the
 --  status byte."
-unfoldable pub may_keep : Figure → Bool → ℕ → Bool → Verdict
+unfoldable pub may_keep : Figure → Bool → ℕ → Bool → Result (Unit {0}) Reason
 may_keep f latch kept wp =
-    cond (not latch) (HeldBack LatchOff)
-    (cond (eqb (bit_and kept f.enable) f.enable && not wp) (HeldBack Protect)
-    Allowed)
+    cond (not latch) (Err LatchOff)
+    (cond (eqb (bit_and kept f.enable) f.enable && not wp) (Err Protect)
+    (Ok tt))

@@ -32,13 +32,10 @@ pub const OPS: usize = 10;
 pub fn decode(ops: [Op; OPS], code: u8) -> Command
     ensures { result ≡ command ops code }
 {
-    let mut i = 0;
-    while i < OPS {
-        let op = ops[i];
+    for op in ops {
         if code == op.code {
             return op.command;
         }
-        i += 1;
     }
     Command::Other
 }

@@ -4,17 +4,12 @@ ghost use Rattle.parts.specs.Guards.{first_protected, may_store, may_keep};
 
 use crate::figures::Figure;
 
+// Why a whole byte is held back.
 #[derive(Clone, Copy)]
 pub enum Reason {
     LatchOff,
     Protect,
     Block,
-}
-
-#[derive(Clone, Copy)]
-pub enum Verdict {
-    Allowed,
-    HeldBack(Reason),
 }
 
 // The first address that the block bits BP1 and BP0 guard; the size where they guard none.
@@ -34,33 +29,33 @@ pub fn first_protected(f: Figure, kept: u8) -> usize
 
 // Whether a whole memory byte may be stored; the lowest reason where not.
 #[tactic(auto, unfolding(crate::specs::Guards::may_store))]
-pub fn may_store(f: Figure, latch: bool, kept: u8, wp: bool, at: usize) -> Verdict
+pub fn may_store(f: Figure, latch: bool, kept: u8, wp: bool, at: usize) -> Result<(), Reason>
     ensures { result ≡ may_store f latch kept wp at }
 {
     let first = first_protected(f, kept);
     if !latch {
-        return Verdict::HeldBack(Reason::LatchOff);
+        return Err(Reason::LatchOff);
     }
     if f.guards_array & !wp {
-        return Verdict::HeldBack(Reason::Protect);
+        return Err(Reason::Protect);
     }
     if first <= at {
-        return Verdict::HeldBack(Reason::Block);
+        return Err(Reason::Block);
     }
-    Verdict::Allowed
+    Ok(())
 }
 
 // Whether a whole status byte may be kept; blocks don't guard it.
 #[tactic(auto, unfolding(crate::specs::Guards::may_keep))]
-pub fn may_keep(f: Figure, latch: bool, kept: u8, wp: bool) -> Verdict
+pub fn may_keep(f: Figure, latch: bool, kept: u8, wp: bool) -> Result<(), Reason>
     ensures { result ≡ may_keep f latch kept wp }
 {
     if !latch {
-        return Verdict::HeldBack(Reason::LatchOff);
+        return Err(Reason::LatchOff);
     }
     let enabled = kept & f.enable == f.enable;
     if enabled & !wp {
-        return Verdict::HeldBack(Reason::Protect);
+        return Err(Reason::Protect);
     }
-    Verdict::Allowed
+    Ok(())
 }
