@@ -1,11 +1,9 @@
--- What a call on trace numbers tells, in document 01's terms: a refusal's number or 0, a value and a place; and what each case of the answers' enums tells. Assumes nothing.
-use Rattle.std.specs.Prelude.{ℕ}
+-- What a call on trace numbers tells, in document 01's terms: a refusal's number or 0, a value and a place; and what each answer tells. Assumes nothing.
+use Rattle.std.specs.Prelude.{ℕ, Result, Ok, Err}
+use Rattle.refusals.specs.Refusals.{number_of}
 use Rattle.trace.specs.declared.answer.Read.{Read}
-use Rattle.trace.specs.declared.answer.Read.TheVariants as read
-use Rattle.trace.specs.declared.answer.Refusal.{Refusal}
-use Rattle.trace.specs.declared.answer.Refusal.TheVariants.{Malformed, TooLarge, Beyond, NoRoom}
-use Rattle.trace.specs.declared.answer.Written.{Written}
-use Rattle.trace.specs.declared.answer.Written.TheVariants as written
+use Rattle.trace.specs.declared.answer.Read.TheVariants.{Number, End}
+use Rattle.trace.specs.declared.answer.Refused.{Refused}
 
 -- "Reading at the slice's very end answers "end"": a value is a number or "end".
 pub data Value : Type 0 where
@@ -33,22 +31,13 @@ placed next = record { refusal = 0; value = num 0; place = next }
 abbrev pub refused_at : ℕ → ℕ → Told
 refused_at row at = record { refusal = row; value = num 0; place = at }
 
--- the rows of "Refusals and their order"
-abbrev pub number_of : Refusal → ℕ
--- 8 "trace number cut off, over two bytes, or not shortest"
-number_of Malformed = 8
--- 9 "trace number over 267"
-number_of TooLarge = 9
--- 10 "place beyond the slice's end"
-number_of Beyond = 10
--- 11 "no room to write the number"
-number_of NoRoom = 11
+-- what a read tells
+abbrev pub read_told : Result Read Refused → Told
+read_told (Ok (Number n next)) = number_read n next
+read_told (Ok (End at)) = ended at
+read_told (Err r) = refused_at (number_of r.refusal) r.at
 
-abbrev pub read_told : Read → Told
-read_told (read.Number n next) = number_read n next
-read_told (read.End at) = ended at
-read_told (read.Refused why at) = refused_at (number_of why) at
-
-abbrev pub written_told : Written → Told
-written_told (written.Placed next) = placed next
-written_told (written.Refused why at) = refused_at (number_of why) at
+-- what a write tells
+abbrev pub written_told : Result ℕ Refused → Told
+written_told (Ok next) = placed next
+written_told (Err r) = refused_at (number_of r.refusal) r.at

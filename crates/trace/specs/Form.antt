@@ -2,9 +2,8 @@
 --
 -- "A trace is numbers in groups of seven bits, low group first, the top bit set on every byte but a number's last.
 --  .. shortest form only". "Numbers go up to 268,435,455, in at most four bytes" (document 02, Wish 7).
-use Rattle.std.specs.Prelude.{ℕ, zero, suc, ◌+◌, ◌*◌, ◌/◌, ◌%◌, Bool, true, cond, ◌&&◌, ◌||◌, List, [], ◌∷◌, leb, ltb, eqb, length, drop}
-use Rattle.trace.specs.declared.number.Shape.{Shape}
-use Rattle.trace.specs.declared.number.Shape.TheVariants.{Whole, Misshapen}
+use Rattle.std.specs.Prelude.{ℕ, zero, suc, ◌+◌, ◌*◌, ◌/◌, ◌%◌, Bool, true, cond, ◌&&◌, ◌||◌, List, [], ◌∷◌, leb, ltb, eqb, length, drop, Option, Some, None}
+use Rattle.trace.specs.declared.number.Whole.{Whole}
 
 -- "the top bit set": a byte that is not its number's last
 abbrev pub goes_on : ℕ → Bool
@@ -51,9 +50,12 @@ spelt (suc k) n = let more = (128 + n % 128) ∷ spelt k (n / 128) in cond (ltb 
 unfoldable pub form : ℕ → List ℕ
 form n = spelt n n
 
--- what `scan` finds: the number that begins at a place, in a given number of groups at most
-abbrev pub shape : ℕ → List ℕ → ℕ → Shape
-shape room bs at = cond (misshapen room bs) Misshapen (Whole (value bs) (at + length bs))
+-- what `scan` finds: the number that begins at a place, in a given number of groups at most; None where it is misshapen
+abbrev pub whole : ℕ → ℕ → Whole
+whole n next = record { value = n; next = next }
 
-unfoldable pub scanned : List ℕ → ℕ → ℕ → Shape
+abbrev pub shape : ℕ → List ℕ → ℕ → Option Whole
+shape room bs at = cond (misshapen room bs) None (Some (whole (value bs) (at + length bs)))
+
+unfoldable pub scanned : List ℕ → ℕ → ℕ → Option Whole
 scanned s at room = shape room (bytes (drop at s)) at

@@ -1,8 +1,9 @@
 -- What reading and writing a number answer, and what a write leaves in the slice. Assumes nothing.
 use Rattle.std.specs.Prelude.{ℕ, ◌+◌, ◌-◌, cond, List, ◌++◌, ltb, eqb, length, take, drop}
 use Rattle.trace.specs.Figures.{groups, largest}
-use Rattle.trace.specs.Answers.{Told, number_read, ended, placed, refused_at, number_of}
-use Rattle.trace.specs.declared.answer.Refusal.TheVariants.{Malformed, TooLarge, Beyond, NoRoom}
+use Rattle.refusals.specs.Refusals.{number_of}
+use Rattle.refusals.specs.declared.refusal.Refusal.TheVariants.{Malformed, TooLarge, Beyond, NoRoom}
+use Rattle.trace.specs.Answers.{Told, number_read, ended, placed, refused_at}
 use Rattle.trace.specs.Form.{bytes, value, misshapen, form}
 
 -- The bytes of a number that begins at a place before the end: 8, then 9; else

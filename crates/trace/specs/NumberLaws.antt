@@ -5,18 +5,18 @@
 --     no_read_gives_9                  four bytes hold no number above the largest, so that 9 is left to a write
 --     forward, less_left               reading moves forward, and stays in the slice; so a loop over it ends
 -- Assumes nothing.
-use Rattle.std.specs.Prelude.{◌≡◌, refl, Bool, true, false, cond, ◌||◌, List, [], ◌∷◌, ◌++◌, ℕ, suc, ◌+◌, ◌-◌, ◌^◌, ◌≤◌, ◌<◌, T, eqb, ltb, length, get_or, take, drop}
+use Rattle.std.specs.Prelude.{◌≡◌, refl, Bool, true, false, cond, ◌||◌, List, [], ◌∷◌, ◌++◌, ℕ, suc, ◌+◌, ◌-◌, ◌^◌, ◌≤◌, ◌<◌, T, eqb, ltb, length, get_or, take, drop, Some, Result, Ok}
 use Rattle.std.proofs.Common.{sym, ap, ◌∙◌, subst, ⊎_elim, append_assoc, eq-or-lt_of_le, arith, le-ltb, lt-ltb, ltb-false, length-append, length-drop, drop_at, length-take-le, take-add, get_or-drop}
 use Rattle.std.proofs.Math.Nat.{pow-succ', pow-le-pow_right}
 use Rattle.std.proofs.Math.Seq.{drop-append_seam, slice}
 use Rattle.trace.specs.Figures.{groups, largest}
 use Rattle.trace.specs.Answers.{Told, number_read, ended, placed, refused_at, read_told}
-use Rattle.trace.specs.Form.{bytes, value, cut_off, too_many, not_shortest, misshapen, form}
+use Rattle.trace.specs.Form.{bytes, value, cut_off, too_many, not_shortest, misshapen, whole, form}
 use Rattle.trace.specs.Number.{reading, writing, over, slice_written}
 use Rattle.trace.specs.Promises.{ReadPromise}
 use Rattle.trace.specs.declared.answer.Read.{Read}
 use Rattle.trace.specs.declared.answer.Read.TheVariants.{Number}
-use Rattle.trace.specs.declared.number.Shape.TheVariants.{Whole}
+use Rattle.trace.specs.declared.answer.Refused.{Refused}
 use Rattle.trace.specs.ByteLaws.{below, bytes_within, bytes_first, low_bytes}
 use Rattle.trace.specs.ScanLaws.{sized, reading_beyond, reading_end, reading_inside, scanned_ill, scanned_well, scanned_spelt}
 use Rattle.trace.specs.SpellingLaws.{Spells, few, some_bytes, shaped, form_spells, one_form as sole-form}
@@ -109,7 +109,7 @@ not_end {n = n} e = let z : ◌≡◌ {A = ℕ} 0 1 = cc (ap (λ (t : Told). t.v
 num_of : {m n i j : ℕ} → number_read m i ≡ number_read n j → m ≡ n
 num_of e = cc (ap (λ (t : Told). t.value) e)
 
-sized_is : (at v p n next : ℕ) → sized at (Whole v p) ≡ number_read n next → (v ≡ n) × (p ≡ next)
+sized_is : (at v p n next : ℕ) → sized at (Some (whole v p)) ≡ number_read n next → (v ≡ n) × (p ≡ next)
 sized_is at v p n next e =
     ⊎_elim (λ h. absurd (no_row (simp (lt-ltb largest v h) at e)))
     (λ h. let q = simp (le-ltb largest v h) at e in (num_of q, ap (λ (t : Told). t.place) q))
@@ -138,7 +138,7 @@ forward s at n next e =
     let a = accepting s at n next e in
     omega (arith, some_bytes a.spells, bytes_within (drop at s), length-drop at s)
 
-pub less_left : (s : List ℕ) (at n next : ℕ) (found : Read) → ReadPromise s at found → found ≡ Number n next
+pub less_left : (s : List ℕ) (at n next : ℕ) (found : Result Read Refused) → ReadPromise s at found → found ≡ Ok (Number n next)
     → length s - next < length s - at
 less_left s at n next found read is = omega (arith, forward s at n next (sym read ∙ ap read_told is))
 

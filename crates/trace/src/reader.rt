@@ -4,7 +4,7 @@ ghost use Rattle.trace.specs.Answers.{read_told};
 ghost use Rattle.trace.specs.Promises.{ReadPromise, NextPromise};
 ghost use Rattle.trace.specs.Reader.{reader_at};
 
-use crate::answer::Read;
+use crate::answer::{Read, Refused};
 use crate::number::read_at;
 
 #[derive(Clone, Copy)]
@@ -13,33 +13,32 @@ pub struct Reader<'a> {
     pub at: usize,
 }
 
-// A reader of `src` at the place `at`.
-pub fn open<'a>(src: &'a [u8], at: usize) -> Reader<'a>
-    ensures { result ≡ reader_at src.entry at }
-{
-    Reader { src, at }
-}
+impl<'a> Reader<'a> {
+    // A reader of `src` at the place `at`.
+    pub fn open(src: &'a [u8], at: usize) -> Reader<'a>
+        ensures { result ≡ reader_at src.entry at }
+    {
+        Reader { src, at }
+    }
 
-// The next number. Where it is accepted the reader moves on; at a refusal and at the end it stays.
-pub fn next<'s, 'a>(r: &'s mut Reader<'a>) -> Read
-    ensures { NextPromise r.old result r.new }
-{
-    let src = r.src;
-    let at = r.at;
-    let found = read_at(src, at);
-    let place = place_of(found);
-    r.at = place;
-    found
+    // The next number. Where it is accepted the reader moves on; at a refusal and at the end it stays.
+    pub fn next(&mut self) -> Result<Read, Refused>
+        ensures { NextPromise self.old result self.new }
+    {
+        let found = read_at(self.src, self.at);
+        self.at = place_of(found);
+        found
+    }
 }
 
 // The place that an answer gives.
-fn place_of(found: Read) -> usize
+fn place_of(found: Result<Read, Refused>) -> usize
     ensures { result ≡ (read_told found).place }
 {
     match found {
-        Read::Number { value: _, next } => next,
-        Read::End { at } => at,
-        Read::Refused { refusal: _, at } => at,
+        Ok(Read::Number { next, .. }) => next,
+        Ok(Read::End { at }) => at,
+        Err(Refused { at, .. }) => at,
     }
 }
 
@@ -48,9 +47,8 @@ pub const MOST_BYTES: usize = 32768;
 
 // The number at a place of a slice, by a reader made for it: what programs call. Its contract says
 // nothing of a reader.
-pub fn number_at(s: &[u8], at: usize) -> Read
+pub fn number_at(s: &[u8], at: usize) -> Result<Read, Refused>
     ensures { ReadPromise s.now at result }
 {
-    let mut reader = open(s, at);
-    next(&mut reader)
+    Reader::open(s, at).next()
 }

@@ -1,9 +1,9 @@
 -- Each way out of `write_at` is the case of `writing` that its tests pick, and the slice goes by that answer: as it was
 -- at a refusal, and else with the form that `put` stored in its place. The facts are found by what they say, so that an exchange of
 -- the tests falls by what it answers.
-use Rattle.std.proofs.Common.{◌≡◌, ◌+◌, ◌-◌, ◌<◌, ◌≤◌, length, ap, ◌∙◌, arith, le-ltb, lt-ltb}
+use Rattle.std.proofs.Common.{◌≡◌, ◌+◌, ◌-◌, ◌<◌, ◌≤◌, length, ◌∙◌, arith, le-ltb, lt-ltb}
 use Rattle.std.proofs.lemmas.List.Edits.{sets-eq}
-use Rattle.trace.specs.Answers.{written_told, placed}
+use Rattle.trace.specs.Answers.{placed}
 use Rattle.trace.specs.Figures.{largest}
 use Rattle.trace.specs.Form.{form}
 use Rattle.trace.specs.Number.{writing}
@@ -35,7 +35,7 @@ pub returns : goal.returns
 unfolding writing
 returns c =
     let a = c.args in
-    let put = c.put-next in
+    let put = c.put in
     let small : a.value ≤ largest = omega arith in
     let within : a.at ≤ length a.s.now = omega arith in
     let room : a.at + length (form a.value) ≤ length a.s.now = omega arith in
