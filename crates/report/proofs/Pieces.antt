@@ -1,9 +1,11 @@
 -- Texts put into a buffer one behind the other are one text; and the digits of bytes, one byte more. Assumes nothing.
 use Rattle.std.proofs.Common.{◌≡◌, refl, sym, ap, ◌∙◌, List, [], ◌∷◌, ◌++◌, append_assoc, ℕ, suc, ◌+◌, ◌≤◌, ◌<◌, add-one, arith, length, get_or, set, take, drop, length-append}
-use Rattle.std.proofs.Math.Nat.{add-zero}
+use Rattle.std.proofs.Math.Nat.{add-zero, le_refl}
 use Rattle.std.proofs.Math.Seq.{sets, length-sets, take-suc}
-use Rattle.std.proofs.lemmas.List.{append-nil, length-take-le}
+use Rattle.std.proofs.lemmas.List.{append-nil, length-take-le, take_all}
 use Rattle.std.proofs.lemmas.List.Edits.{sets-eq}
+use Rattle.std.proofs.lemmas.Slice.{put_mid-paste}
+use borrow.Rule.Slice.PartMut.{put_mid}
 use Rattle.io.specs.Counts.{IsPrefixLen}
 use Rattle.report.specs.Text.{Puts, hex, hexes}
 
@@ -27,11 +29,16 @@ pub ◌then◌ : {a b c p q : List ℕ} {i j k : ℕ} → Puts a i p b j → Put
 pub same : {a b p q : List ℕ} {i j : ℕ} → p ≡ q → Puts a i p b j → Puts a i q b j
 same e x = rw e at x
 
--- one byte more of a text
-pub more :
-    {a b : List ℕ} (text : List ℕ) {at i : ℕ} → i < length text → Puts a at (take i text) b (at + i)
-    → Puts a at (take (i + 1) text) (set b (at + i) (get_or text i 0)) (at + (i + 1))
-more text {at} {i} h x = rw (add-one i, take-suc text i 0 h) (x then record { bytes = refl; ends = omega arith })
+-- a text written over a part of the buffer that is as long
+pub written :
+    (a text part : List ℕ) (at k : ℕ) → at + length text ≤ length a → k ≡ length text → part ≡ text
+    → Puts a at text (put_mid at k a part) (at + length text)
+written a text part at k h size e = record {
+  bytes =
+      put_mid-paste at k a part text (length text) e (sym size) refl
+      ∙ rw (take_all (length text) text (le_refl (length text))) (sym (sets-eq text a at h));
+  ends = refl;
+}
 
 -- the buffer is as long as it was
 pub kept : {a b p : List ℕ} {i j : ℕ} → Puts a i p b j → length b ≡ length a

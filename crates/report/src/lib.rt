@@ -4,4 +4,4 @@
 
 pub mod lines;
 pub mod record;
-mod text;
+pub mod text;

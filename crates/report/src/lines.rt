@@ -45,7 +45,7 @@ fn put_shown(out: &mut [u8; LINE], at: usize, shown: &[u8], whole: u64) -> usize
 }
 
 // A word and its number.
-fn put_numbered(out: &mut [u8; LINE], at: usize, word: &[u8], n: u64) -> usize
+pub fn put_numbered(out: &mut [u8; LINE], at: usize, word: &[u8], n: u64) -> usize
     requires { at + length word.now + most_digits ≤ line_room }
     ensures upper_bound { result ≤ at + length word.now + most_digits }
     ensures puts { Puts out.old at (numbered word.now n) out.new result }

@@ -35,7 +35,7 @@ pub fn count(n: u64) -> u64
 
 // SO's bits with one more, where SO is driven.
 #[tactic(auto, unfolding(crate::specs::Record::sampled))]
-fn sample(bits: u16, so: Level) -> Taken
+pub fn sample(bits: u16, so: Level) -> Taken
     ensures { result ≡ sampled bits so }
 {
     match so {

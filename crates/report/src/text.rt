@@ -13,7 +13,7 @@ const CAPITALS: [u8; 16] = *b"0123456789ABCDEF";
 
 // The capital digit of a number below 16.
 #[tactic(auto, unfolding(crate::specs::Text::capitals))]
-fn capital(n: usize) -> u8
+pub fn capital(n: usize) -> u8
     requires { n < 16 }
     ensures { result ≡ get_or capitals n 0 }
 {
@@ -21,21 +21,18 @@ fn capital(n: usize) -> u8
 }
 
 // The bytes of a text.
-pub(crate) fn put(out: &mut [u8], at: usize, text: &[u8]) -> usize
+pub fn put(out: &mut [u8], at: usize, text: &[u8]) -> usize
     requires { at + length text.now ≤ length out.old }
     ensures { Puts out.old at text.now out.new result }
 {
-    let mut i = 0;
-    while i < text.len() {
-        out[at + i] = text[i];
-        i += 1;
-    }
-    at + i
+    let next = at + text.len();
+    out[at..next].copy_from_slice(text);
+    next
 }
 
 // The two digits of a byte.
 #[tactic(auto, unfolding(crate::specs::Text::hex))]
-pub(crate) fn put_hex(out: &mut [u8; LINE], at: usize, byte: u8) -> usize
+pub fn put_hex(out: &mut [u8; LINE], at: usize, byte: u8) -> usize
     requires { at + 2 ≤ line_room }
     ensures value { result ≡ at + 2 }
     ensures puts { Puts out.old at (hex byte) out.new result }
@@ -46,23 +43,21 @@ pub(crate) fn put_hex(out: &mut [u8; LINE], at: usize, byte: u8) -> usize
 }
 
 // The digits of bytes, "with no spaces between bytes".
-pub(crate) fn put_hexes(out: &mut [u8; LINE], at: usize, bytes: &[u8]) -> usize
+pub fn put_hexes(out: &mut [u8; LINE], at: usize, bytes: &[u8]) -> usize
     requires { at + 2 * length bytes.now ≤ line_room }
     ensures value { result ≡ at + 2 * length bytes.now }
     ensures puts { Puts out.old at (hexes bytes.now) out.new result }
 {
     let mut next = at;
-    let mut i = 0;
-    while i < bytes.len() {
-        next = put_hex(out, next, bytes[i]);
-        i += 1;
+    for &byte in bytes {
+        next = put_hex(out, next, byte);
     }
     next
 }
 
 // "other numbers are decimal".
 #[tactic(auto, unfolding(crate::specs::Text::decimal))]
-pub(crate) fn put_decimal(out: &mut [u8; LINE], at: usize, n: u64) -> usize
+pub fn put_decimal(out: &mut [u8; LINE], at: usize, n: u64) -> usize
     requires { at + most_digits ≤ line_room }
     ensures upper_bound { result ≤ at + most_digits }
     ensures puts { Puts out.old at (decimal n) out.new result }

@@ -1,7 +1,7 @@
--- One byte more of the text is put.
+-- The part of the buffer that is as long as the text holds it.
 use Rattle.std.proofs.Common.{arith}
-use Rattle.report.proofs.Pieces.{more}
+use Rattle.report.proofs.Pieces.{written}
 use Rattle.report.proofs.text.put.Goals as goal
 
-pub loop-i-preserved : goal.loop-i-preserved
-loop-i-preserved c = (omega arith, more _ c.loop-i-test.true c.loop-i.invariant.1)
+pub returns : goal.returns
+returns c = written _ _ _ _ _ c.requires (omega arith) c.copy_from_slice.ensures.after

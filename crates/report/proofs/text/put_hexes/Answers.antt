@@ -3,9 +3,8 @@ use Rattle.std.proofs.Common.{sym, arith}
 use Rattle.report.proofs.Pieces.{◌then◌, same, hexes_more}
 use Rattle.report.proofs.text.put_hexes.Goals as goal
 
-pub loop-i-preserved : goal.loop-i-preserved
-loop-i-preserved c = (
+pub loop-byte-preserved : goal.loop-byte-preserved
+loop-byte-preserved c = (
   omega arith,
-  omega arith,
-  same (sym (hexes_more _ c.loop-i.i c.loop-i-test.true)) (c.loop-i.invariant.2 then c.put_hex-next.ensures.puts),
+  same (sym (hexes_more _ _ c.loop-byte-test.true)) (c.loop-byte.invariant.1 then c.put_hex-next.ensures.puts),
 )
