@@ -1,36 +1,45 @@
 -- What an accepted power-up says: its numbers pass their tests, and so both fit a byte; it gives the power-up state.
 -- Accepted or refused, its state is sound. Assumes nothing.
-use Rattle.std.specs.Prelude.{ℕ, ◌<◌, ◌≡◌, Bool, cond, not, List, length}
+use Rattle.std.specs.Prelude.{ℕ, ◌<◌, ◌≡◌, Bool, cond, not, List, length, Option, Some, None, is_none, Ok}
 use Rattle.std.proofs.Math.Path.{refl}
 use Rattle.std.proofs.Math.Bool.{true, false}
-use Rattle.std.proofs.Common.{lt_of_le_of_lt, lt_trans, lit<}
-use borrow.Author.Tests.{eqb-false, eqb-true, eq-eqb}
+use Rattle.std.proofs.lemmas.Option.{none-some}
+use Rattle.std.proofs.Common.{arith, sym, lt_of_le_of_lt, lt_trans, lit<}
+use borrow.Author.Tests.{eqb-true}
 use Rattle.std.specs.Int.Bits.{bit_and}
 use Rattle.std.proofs.lemmas.Nat.{and_le_r}
-use Rattle.std.proofs.Math.Dec.{eqb}
 use Rattle.parts.specs.Figures.{figure_of, is_part, in_mask, fits_part}
 use Rattle.parts.specs.FigureLaws.{fair, below_count}
-use Rattle.supply.specs.Power.{fill_refusal, power_refusal, power_up}
+use Rattle.refusals.specs.declared.refusal.Refusal.{Refusal}
+use Rattle.refusals.specs.declared.refusal.Refusal.TheVariants.{NoPart, ArrayLength, KeptBits}
+use Rattle.supply.specs.Power.{checked, fill_refusal, power_refusal, power_up}
 use Rattle.supply.specs.declared.power.Powered.{Powered}
 use Rattle.pins.specs.Levels.{at_rest}
 use Rattle.pins.specs.Sound.{sound}
 use Rattle.pins.specs.SoundLaws.{rest_sound}
 
-both_passed : (a b : Bool) → ◌≡◌ {A = ℕ} (cond (not a) 1 (cond (not b) 2 0)) 0 → (a ≡ true) × (b ≡ true)
-both_passed false b h = absurd (eqb-false 1 0 refl h)
-both_passed true false h = absurd (eqb-false 2 0 refl h)
+-- a check that answers Ok gives no refusal
+pub checked_none : (given : Option Refusal) → checked given ≡ Ok tt → given ≡ None
+checked_none None h = refl
+checked_none (Some why) h = grind arith
+
+both_passed :
+    (a b : Bool) → cond (not a) (Some NoPart) (cond (not b) (Some ArrayLength) None) ≡ None → (a ≡ true) × (b ≡ true)
+both_passed false b h = absurd (none-some NoPart (sym h))
+both_passed true false h = absurd (none-some ArrayLength (sym h))
 both_passed true true h = (refl, refl)
 
 all_passed :
-    (t d : Bool) (n : ℕ) → eqb n 0 ≡ t → ◌≡◌ {A = ℕ} (cond t (cond d 0 3) n) 0 → (n ≡ 0) × (d ≡ true)
-all_passed true true n e h = (eqb-true n 0 e, refl)
-all_passed true false n e h = absurd (eqb-false 3 0 refl h)
-all_passed false d n e h = absurd (eqb-false n 0 e h)
+    (d : Bool) (given : Option Refusal) → cond (is_none given) (cond d None (Some KeptBits)) given ≡ None
+    → (given ≡ None) × (d ≡ true)
+all_passed true None h = (refl, refl)
+all_passed false None h = absurd (none-some KeptBits (sym h))
+all_passed d (Some why) h = absurd (none-some why (sym h))
 
-module _ (part kept len : ℕ) (fine : power_refusal part kept len ≡ 0) where
-  pub fill_and_mask : (fill_refusal part len ≡ 0) × (in_mask part kept ≡ true)
+module _ (part kept len : ℕ) (fine : power_refusal part kept len ≡ None) where
+  pub fill_and_mask : (fill_refusal part len ≡ None) × (in_mask part kept ≡ true)
   unfolding power_refusal
-  fill_and_mask = all_passed (eqb (fill_refusal part len) 0) (in_mask part kept) (fill_refusal part len) refl fine
+  fill_and_mask = all_passed (in_mask part kept) (fill_refusal part len) fine
 
   pub part_and_size : (is_part part ≡ true) × (fits_part part len ≡ true)
   unfolding fill_refusal
@@ -46,16 +55,16 @@ module _ (part kept len : ℕ) (fine : power_refusal part kept len ≡ 0) where
       (fair part part_and_size.0).mask
 
 -- an accepted power-up: no refusal, all three tests passed, the power-up state
-module _ (part kept : ℕ) (xs : List ℕ) (accepted : (power_up part kept xs).refusal ≡ 0) where
-  fine : power_refusal part kept (length xs) ≡ 0
+module _ (part kept : ℕ) (xs : List ℕ) (accepted : (power_up part kept xs).refusal ≡ None) where
+  fine : power_refusal part kept (length xs) ≡ None
   unfolding power_up
-  fine = go (eqb (power_refusal part kept (length xs)) 0) refl accepted
+  fine = go (power_refusal part kept (length xs)) accepted
     where
-      go : (t : Bool) → eqb (power_refusal part kept (length xs)) 0 ≡ t
-          → (cond {A = Powered} t (record { refusal = 0; state = at_rest part kept true }) (record { refusal = power_refusal part kept (length xs); state = at_rest 1 0 false })).refusal ≡ 0
-          → power_refusal part kept (length xs) ≡ 0
-      go true e h = eqb-true _ _ e
-      go false e h = h
+      go : (given : Option Refusal)
+          → (cond {A = Powered} (is_none given) (record { refusal = None; state = at_rest part kept true }) (record { refusal = given; state = at_rest 1 0 false })).refusal ≡ None
+          → given ≡ None
+      go None h = refl
+      go (Some why) h = h
 
   pub power_one : is_part part ≡ true
   power_one = (part_and_size part kept (length xs) fine).0
@@ -68,7 +77,7 @@ module _ (part kept : ℕ) (xs : List ℕ) (accepted : (power_up part kept xs).r
 
   pub power_state : (power_up part kept xs).state ≡ at_rest part kept true
   unfolding power_up
-  power_state = rw (eq-eqb _ _ fine)
+  power_state = rw fine
 
 off_sound : sound (at_rest 1 0 false) ≡ true
 unfolding figure_of
@@ -77,11 +86,10 @@ off_sound = rest_sound 1 0 false refl refl
 -- accepted or refused, a power-up leads to a sound state
 pub power_sound : (part kept : ℕ) (xs : List ℕ) → sound (power_up part kept xs).state ≡ true
 unfolding power_up
-power_sound part kept xs = go (eqb (power_refusal part kept (length xs)) 0) refl
+power_sound part kept xs = go (power_refusal part kept (length xs)) refl
   where
-    go : (t : Bool) → eqb (power_refusal part kept (length xs)) 0 ≡ t
-        → sound (cond {A = Powered} t (record { refusal = 0; state = at_rest part kept true }) (record { refusal = power_refusal part kept (length xs); state = at_rest 1 0 false })).state ≡ true
-    go true e =
-        let none = eqb-true (power_refusal part kept (length xs)) 0 e in
+    go : (given : Option Refusal) → power_refusal part kept (length xs) ≡ given
+        → sound (cond {A = Powered} (is_none given) (record { refusal = None; state = at_rest part kept true }) (record { refusal = given; state = at_rest 1 0 false })).state ≡ true
+    go None none =
         rest_sound part kept true (part_and_size part kept (length xs) none).0 (fill_and_mask part kept (length xs) none).1
-    go false e = off_sound
+    go (Some why) e = off_sound

@@ -1,46 +1,44 @@
 // Power-up, and a fresh array.
-ghost use Rattle.std.specs.Prelude.{◌≡◌, length, replicate};
-ghost use Rattle.supply.specs.Power.{power_refusal, power_up, fill_refusal, fresh};
+ghost use Rattle.std.specs.Prelude.{◌≡◌};
+ghost use Rattle.supply.specs.Power.{power_refusal, power_up, fill_refusal, checked, fresh};
 ghost use Rattle.supply.specs.Promises.{FillPromise};
 
 use parts::figures::{figure_of, fits_part, is_part};
 use pins::state::State;
+use refusals::refusal::Refusal;
 
 // Document 02, Wish 6: "A fresh array holds FF."
 const FRESH: u8 = 0xFF;
 
+// The answer to a power-up; a refused one gives the off state.
 #[derive(Clone, Copy)]
 pub struct Powered {
-    pub refusal: u8,
+    pub refusal: Option<Refusal>,
     pub state: State,
 }
 
 #[tactic(auto, unfolding(crate::specs::Power::fill_refusal))]
-fn fill_refusal(part: u64, len: usize) -> u8
-    ensures { result ≡ fill_refusal part len }
+fn check_fill(part: u64, len: usize) -> Result<(), Refusal>
+    ensures { result ≡ checked (fill_refusal part len) }
 {
     if !is_part(part) {
-        return 1;
+        return Err(Refusal::NoPart);
     }
     if !fits_part(part, len) {
-        return 2;
+        return Err(Refusal::ArrayLength);
     }
-    0
+    Ok(())
 }
 
 #[tactic(auto, unfolding(crate::specs::Power::power_refusal))]
-fn power_refusal(part: u64, kept: u64, len: usize) -> u8
-    ensures { result ≡ power_refusal part kept len }
+fn check_power(part: u64, kept: u64, len: usize) -> Result<(), Refusal>
+    ensures { result ≡ checked (power_refusal part kept len) }
 {
-    let refusal = fill_refusal(part, len);
-    if refusal != 0 {
-        return refusal;
+    check_fill(part, len)?;
+    if kept & (figure_of(part).kept as u64) != kept {
+        return Err(Refusal::KeptBits);
     }
-    let f = figure_of(part);
-    if kept & (f.kept as u64) != kept {
-        return 3;
-    }
-    0
+    Ok(())
 }
 
 // Power-up of a part with its kept bits, over the array that is lent to it.
@@ -48,40 +46,30 @@ fn power_refusal(part: u64, kept: u64, len: usize) -> u8
 pub fn power_up(part: u64, kept: u64, array: &[u8]) -> Powered
     ensures { result ≡ power_up part kept array.now }
 {
-    let refusal = power_refusal(part, kept, array.len());
-    if refusal != 0 {
-        let state = State::at_rest(1, 0, false);
-        return Powered { refusal, state };
-    }
-    let state = State::at_rest(part as u8, kept as u8, true);
-    Powered { refusal, state }
-}
-
-// Every byte of the array set to one value.
-fn set_all(array: &mut [u8], byte: u8)
-    ensures { array.new ≡ replicate (length array.old) byte }
-{
-    let mut i = 0;
-    while i < array.len() {
-        array[i] = byte;
-        i += 1;
+    match check_power(part, kept, array.len()) {
+        Ok(()) => Powered {
+            refusal: None,
+            state: State::at_rest(part as u8, kept as u8, true),
+        },
+        Err(refusal) => Powered {
+            refusal: Some(refusal),
+            state: State::at_rest(1, 0, false),
+        },
     }
 }
 
-// A fresh array for a caller who "says so with a fill byte". It answers the refusal, or 0.
+// A fresh array for a caller who "says so with a fill byte".
 #[tactic(auto, unfolding(crate::specs::Power::filled))]
-pub fn fill_with(part: u64, array: &mut [u8], byte: u8) -> u8
+pub fn fill_with(part: u64, array: &mut [u8], byte: u8) -> Result<(), Refusal>
     ensures { FillPromise part byte array.old result array.new }
 {
-    let refusal = fill_refusal(part, array.len());
-    if refusal == 0 {
-        set_all(array, byte);
-    }
-    refusal
+    check_fill(part, array.len())?;
+    array.fill(byte);
+    Ok(())
 }
 
 // "the old call means FF"
-pub fn fill(part: u64, array: &mut [u8]) -> u8
+pub fn fill(part: u64, array: &mut [u8]) -> Result<(), Refusal>
     ensures { FillPromise part fresh array.old result array.new }
 {
     fill_with(part, array, FRESH)
