@@ -1,8 +1,7 @@
 -- The byte of the array that a select touched last (document 02, Wish 9): "a READ or FSTRD byte whose first bit was driven, or a
 -- stored byte". Assumes nothing.
-use Rattle.std.specs.Prelude.{ℕ, ◌+◌, cond, ltb}
-use Rattle.parts.specs.declared.guards.Verdict.{Verdict}
-use Rattle.parts.specs.declared.guards.Verdict.TheVariants.{Allowed, HeldBack}
+use Rattle.std.specs.Prelude.{ℕ, ◌+◌, cond, ltb, Result, Ok, Err}
+use Rattle.parts.specs.declared.guards.Reason.{Reason}
 use Rattle.stages.specs.declared.stage.Stage.{Stage}
 use Rattle.stages.specs.declared.stage.Stage.TheVariants.{Closed, Asleep, Code, Upper, Lower, Dummy, Ready, ArrayOut, StatusOut, IdentOut, SerialOut, Writing, Keeping, Over}
 
@@ -11,9 +10,9 @@ abbrev pub mark : ℕ → ℕ
 mark at = cond (ltb at 0xFFFFFFFF) (at + 1) 0
 
 -- after a data byte of a WRITE: "a stored byte", and none that is held back
-abbrev pub last_by : ℕ → ℕ → Verdict → ℕ
-last_by last at Allowed = mark at
-last_by last at (HeldBack reason) = last
+abbrev pub last_by : ℕ → ℕ → Result (Unit {0}) Reason → ℕ
+last_by last at (Ok done) = mark at
+last_by last at (Err reason) = last
 
 -- of a READ or FSTRD it is the byte that is shown: its first bit was driven. A WRITE keeps it.
 abbrev pub last_of : Stage → ℕ

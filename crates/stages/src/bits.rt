@@ -35,9 +35,5 @@ pub fn bit_of(byte: u8, bit: u16) -> Line
     if 8 <= bit {
         return Line::Down;
     }
-    if (byte >> bit) & 1 == 1 {
-        Line::Up
-    } else {
-        Line::Down
-    }
+    Line::from((byte >> bit) & 1 == 1)
 }

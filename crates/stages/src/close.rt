@@ -11,21 +11,14 @@ use parts::figures::Figure;
 pub fn is_closed(stage: Stage) -> bool
     ensures { result ≡ is_closed stage }
 {
-    match stage {
-        Stage::Closed => true,
-        Stage::Asleep => true,
-        _ => false,
-    }
+    matches!(stage, Stage::Closed | Stage::Asleep)
 }
 
 // Whether the chip sleeps.
 pub fn is_asleep(stage: Stage) -> bool
     ensures { result ≡ is_asleep stage }
 {
-    match stage {
-        Stage::Asleep => true,
-        _ => false,
-    }
+    matches!(stage, Stage::Asleep)
 }
 
 // What the close of a select does besides.
@@ -33,12 +26,10 @@ pub fn end_of(stage: Stage) -> End
     ensures { result ≡ end_of stage }
 {
     match stage {
-        Stage::Writing { came, .. } => match came {
-            Came::NoByte => End::Quiet,
-            Came::NoByteLow => End::Quiet,
-            Came::Bytes => End::Drops,
-            Came::BytesLow => End::Drops,
-        },
+        Stage::Writing {
+            came: Came::Bytes | Came::BytesLow,
+            ..
+        } => End::Drops,
         Stage::Over { end } => end,
         _ => End::Quiet,
     }
@@ -48,11 +39,7 @@ pub fn end_of(stage: Stage) -> End
 pub fn drops(stage: Stage) -> bool
     ensures { result ≡ drops stage }
 {
-    match end_of(stage) {
-        End::Quiet => false,
-        End::Drops => true,
-        End::Sleeps => false,
-    }
+    matches!(end_of(stage), End::Drops)
 }
 
 // The stage after the close.
@@ -60,8 +47,7 @@ pub fn after_close(stage: Stage) -> Stage
     ensures { result ≡ after_close stage }
 {
     match end_of(stage) {
-        End::Quiet => Stage::Closed,
-        End::Drops => Stage::Closed,
+        End::Quiet | End::Drops => Stage::Closed,
         End::Sleeps => Stage::Asleep,
     }
 }

@@ -3,7 +3,7 @@ ghost use Rattle.std.specs.Prelude.{◌≡◌};
 ghost use Rattle.stages.specs.Last.{mark, last_by, last_of};
 
 use crate::stage::Stage;
-use parts::guards::Verdict;
+use parts::guards::Reason;
 
 // An address as the byte touched last has it, in four bytes: one more, since 0 is none.
 fn mark(at: usize) -> u32
@@ -13,12 +13,12 @@ fn mark(at: usize) -> u32
 }
 
 // After a data byte of a WRITE: the byte itself where it is stored; one that is held back touches nothing.
-pub fn last_by(last: u32, at: usize, verdict: Verdict) -> u32
+pub fn last_by(last: u32, at: usize, verdict: Result<(), Reason>) -> u32
     ensures { result ≡ last_by last at verdict }
 {
     match verdict {
-        Verdict::Allowed => mark(at),
-        Verdict::HeldBack(_) => last,
+        Ok(()) => mark(at),
+        Err(_) => last,
     }
 }
 

@@ -1,54 +1,50 @@
 // /WP and the data byte under way (document 02, Wishes 2 and 3).
 ghost use Rattle.std.specs.Prelude.{◌≡◌};
-ghost use Rattle.stages.specs.Wp.{is_up, came_up, some_came, came_with, fall_wp, byte_wp, byte_came};
+ghost use Rattle.stages.specs.Wp.{line_of, is_up, came_up, some_came, came_with, fall_wp, byte_wp, byte_came};
 
 use crate::bits::NO_BITS;
 use crate::stage::{Came, Line};
 use parts::figures::Figure;
 
+// A level as a stage remembers it.
+impl From<bool> for Line {
+    ghost from_gives = { λ level line. line ≡ line_of level };
+
+    fn from(level: bool) -> Line {
+        if level { Line::Up } else { Line::Down }
+    }
+}
+
 // Whether a level is up.
 pub fn is_up(line: Line) -> bool
     ensures { result ≡ is_up line }
 {
-    match line {
-        Line::Down => false,
-        Line::Up => true,
-    }
+    matches!(line, Line::Up)
 }
 
 // Whether the level that is remembered with what came is up.
 pub fn came_up(came: Came) -> bool
     ensures { result ≡ came_up came }
 {
-    match came {
-        Came::NoByte => true,
-        Came::NoByteLow => false,
-        Came::Bytes => true,
-        Came::BytesLow => false,
-    }
+    matches!(came, Came::NoByte | Came::Bytes)
 }
 
 // Whether a whole byte came.
 pub fn some_came(came: Came) -> bool
     ensures { result ≡ some_came came }
 {
-    match came {
-        Came::NoByte => false,
-        Came::NoByteLow => false,
-        Came::Bytes => true,
-        Came::BytesLow => true,
-    }
+    matches!(came, Came::Bytes | Came::BytesLow)
 }
 
 // What came, with this level.
 fn came_with(came: Came, wp: bool) -> Came
     ensures { result ≡ came_with came wp }
 {
-    match came {
-        Came::NoByte => if wp { Came::NoByte } else { Came::NoByteLow },
-        Came::NoByteLow => if wp { Came::NoByte } else { Came::NoByteLow },
-        Came::Bytes => if wp { Came::Bytes } else { Came::BytesLow },
-        Came::BytesLow => if wp { Came::Bytes } else { Came::BytesLow },
+    match (some_came(came), wp) {
+        (false, true) => Came::NoByte,
+        (false, false) => Came::NoByteLow,
+        (true, true) => Came::Bytes,
+        (true, false) => Came::BytesLow,
     }
 }
 
@@ -74,7 +70,7 @@ pub fn byte_wp(f: Figure, wp: Line, shift: u16, pin: bool) -> Line
         return wp;
     }
     if shift == NO_BITS {
-        if pin { Line::Up } else { Line::Down }
+        Line::from(pin)
     } else {
         wp
     }
