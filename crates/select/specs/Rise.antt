@@ -1,12 +1,12 @@
 -- A seen rise of SCK in a select (document 01, "A select, clock by clock"). Assumes nothing.
-use Rattle.std.specs.Prelude.{ℕ, Bool, true, false}
+use Rattle.std.specs.Prelude.{ℕ, Bool, true, false, Result, Ok, Err}
 use Rattle.std.specs.Int.Bits.{bit_and}
 use Rattle.parts.specs.Commands.{command}
 use Rattle.parts.specs.Guards.{may_store, may_keep}
 use Rattle.parts.specs.declared.figures.Figure.{Figure}
 use Rattle.parts.specs.declared.commands.Command.{Command}
 use Rattle.parts.specs.declared.commands.Command.TheVariants.{Wren, Wrdi, Rdsr, Wrsr, Read, Fstrd, Write, Rdid, Snr, Sleep, Other}
-use Rattle.parts.specs.declared.guards.Verdict as verdict
+use Rattle.parts.specs.declared.guards.Reason.{Reason}
 use Rattle.stages.specs.Bits.{no_bits, take_bit}
 use Rattle.stages.specs.Wp.{is_up, came_up, byte_wp, byte_came}
 use Rattle.stages.specs.Last.{last_by}
@@ -86,13 +86,13 @@ unfoldable pub dummy_rise : Seen → ℕ → ℕ → Risen
 dummy_rise seen shift at = dummy_taken seen at (take_bit shift seen.si)
 
 -- stored, or "held back, with address and reason"
-abbrev pub store_note : ℕ → ℕ → verdict.Verdict → Note
-store_note at byte verdict.TheVariants.Allowed = Stored at byte
-store_note at byte (verdict.TheVariants.HeldBack reason) = HeldBack at reason
+abbrev pub store_note : ℕ → ℕ → Result (Unit {0}) Reason → Note
+store_note at byte (Ok done) = Stored at byte
+store_note at byte (Err reason) = HeldBack at reason
 
 -- "WRITE stores each data byte at the eighth rise of that byte, then steps the address, rolling over.
 --  A byte held back steps the address too (H)." /WP is the byte's own: `byte_came`.
-abbrev pub wrote_by : Figure → Seen → ℕ → ℕ → ℕ → verdict.Verdict → Risen
+abbrev pub wrote_by : Figure → Seen → ℕ → ℕ → ℕ → Result (Unit {0}) Reason → Risen
 wrote_by f seen last at byte verdict =
     record {
       stage = Writing Bytes no_bits (last_by last at verdict) (next_address f at);
@@ -109,10 +109,10 @@ unfoldable pub write_rise : Figure → Seen → Came → ℕ → ℕ → ℕ →
 write_rise f seen came shift last at = write_taken f seen (byte_came came shift seen.wp) last at (take_bit shift seen.si)
 
 -- "keeps the byte under the part's mask. Further bytes do nothing (H)."
-abbrev pub kept_by : Figure → Seen → ℕ → verdict.Verdict → Risen
-kept_by f seen byte verdict.TheVariants.Allowed =
+abbrev pub kept_by : Figure → Seen → ℕ → Result (Unit {0}) Reason → Risen
+kept_by f seen byte (Ok done) =
     record { stage = Over Drops; latch = seen.latch; kept = bit_and byte f.kept; note = KeptSet (bit_and byte f.kept) }
-kept_by f seen byte (verdict.TheVariants.HeldBack reason) =
+kept_by f seen byte (Err reason) =
     record { stage = Over Drops; latch = seen.latch; kept = seen.kept; note = KeptHeldBack reason }
 
 -- "WRSR takes the first data byte at its eighth rise". /WP is the byte's own: `byte_wp`.

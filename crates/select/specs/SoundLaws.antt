@@ -1,5 +1,5 @@
 -- A seen rise and a seen fall of SCK keep a stage sound, over any part's figures. Assumes nothing.
-use Rattle.std.specs.Prelude.{ℕ, ◌+◌, ◌-◌, ◌*◌, ◌<◌, ◌≡◌, Bool, cond, ◌&&◌, ◌||◌, List, eqb, leb}
+use Rattle.std.specs.Prelude.{ℕ, ◌+◌, ◌-◌, ◌*◌, ◌<◌, ◌≡◌, Bool, cond, ◌&&◌, ◌||◌, List, eqb, leb, Result, Ok, Err}
 use Rattle.std.proofs.Math.Path.{refl}
 use Rattle.std.proofs.Math.Bool.{true, false}
 use Rattle.std.proofs.Common.{arith}
@@ -16,7 +16,7 @@ use Rattle.parts.specs.declared.figures.Figure.{Figure}
 use Rattle.parts.specs.declared.commands.Command.{Command}
 use Rattle.parts.specs.declared.commands.Command.TheVariants.{Wren, Wrdi, Rdsr, Wrsr, Read, Fstrd, Write, Rdid, Snr, Sleep, Other}
 use Rattle.parts.specs.Guards.{may_store, may_keep}
-use Rattle.parts.specs.declared.guards.Verdict as verdict
+use Rattle.parts.specs.declared.guards.Reason.{Reason}
 use Rattle.stages.specs.Address.{upper_page, next_address}
 use Rattle.stages.specs.Bits.{no_bits, take_bit}
 use Rattle.stages.specs.Last.{last_by}
@@ -41,10 +41,10 @@ use Rattle.stages.specs.declared.bits.Taken.TheVariants.{Part, Whole}
 
 module _ (f : Figure) (fair : Fair f) where
   -- the kept bits stay under the mask
-  kept_masked : (seen : Seen) (byte : ℕ) (v : verdict.Verdict) → bit_and seen.kept f.kept ≡ seen.kept
+  kept_masked : (seen : Seen) (byte : ℕ) (v : Result (Unit {0}) Reason) → bit_and seen.kept f.kept ≡ seen.kept
       → bit_and (kept_by f seen byte v).kept f.kept ≡ (kept_by f seen byte v).kept
-  kept_masked seen byte verdict.TheVariants.Allowed h = under_twice byte f.kept fair.mask
-  kept_masked seen byte (verdict.TheVariants.HeldBack reason) h = h
+  kept_masked seen byte (Ok done) h = under_twice byte f.kept fair.mask
+  kept_masked seen byte (Err reason) h = h
 
   begun_masked : (seen : Seen) (wp : Line) (code : ℕ) (c : Command) → (by_command f seen wp code c).kept ≡ seen.kept
   begun_masked seen wp code Wren = refl
@@ -141,11 +141,11 @@ module _ (f : Figure) (fair : Fair f) where
   dummy_sound seen at (Whole byte) p h = right (eqb f.dummy 1) _ p
 
   -- the byte stored last is one of the array
-  last_sound : (last at : ℕ) (v : verdict.Verdict) → ltb at f.size ≡ true → leb last f.size ≡ true → leb (last_by last at v) f.size ≡ true
-  last_sound last at verdict.TheVariants.Allowed p h =
+  last_sound : (last at : ℕ) (v : Result (Unit {0}) Reason) → ltb at f.size ≡ true → leb last f.size ≡ true → leb (last_by last at v) f.size ≡ true
+  last_sound last at (Ok done) p h =
       let inside : at < f.size = ltb-true at f.size p in
       rw (lt-ltb at 0xFFFFFFFF (omega (arith, inside, fair.short))) (le-leb (at + 1) f.size (omega (arith, inside)))
-  last_sound last at (verdict.TheVariants.HeldBack reason) p h = h
+  last_sound last at (Err reason) p h = h
 
   either : (t : Bool) → (t || true) ≡ true
   either true = refl
@@ -178,10 +178,10 @@ module _ (f : Figure) (fair : Fair f) where
       go true = rw (came_some came wp) h
       go false = h
 
-  kept_sound : (seen : Seen) (byte : ℕ) (v : verdict.Verdict) → sound_stage f (kept_by f seen byte v).stage ≡ true
+  kept_sound : (seen : Seen) (byte : ℕ) (v : Result (Unit {0}) Reason) → sound_stage f (kept_by f seen byte v).stage ≡ true
   unfolding sound_stage
-  kept_sound seen byte verdict.TheVariants.Allowed = refl
-  kept_sound seen byte (verdict.TheVariants.HeldBack reason) = refl
+  kept_sound seen byte (Ok done) = refl
+  kept_sound seen byte (Err reason) = refl
 
   keep_sound : (seen : Seen) (wp : Line) (t : Taken) → DataTaken t → sound_stage f (keep_taken f seen wp t).stage ≡ true
   unfolding sound_stage

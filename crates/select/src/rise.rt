@@ -5,7 +5,7 @@ ghost use Rattle.select.specs.Rise.{quiet, opened, code_rise, upper_rise, lower_
 use crate::notes::Note;
 use parts::commands::{Command, decode};
 use parts::figures::Figure;
-use parts::guards::{Verdict, may_keep, may_store};
+use parts::guards::{Reason, may_keep, may_store};
 use stages::address::{addressed, header, next_address, upper_page};
 use stages::bits::{NO_BITS, Taken, take_bit};
 use stages::last::last_by;
@@ -164,12 +164,12 @@ fn dummy_rise(seen: Seen, shift: u16, at: usize) -> Risen
 }
 
 // Held back or not, the note names the address.
-fn store_note(at: usize, byte: u8, verdict: Verdict) -> Note
+fn store_note(at: usize, byte: u8, verdict: Result<(), Reason>) -> Note
     ensures { result ≡ store_note at byte verdict }
 {
     match verdict {
-        Verdict::Allowed => Note::Stored(at, byte),
-        Verdict::HeldBack(reason) => Note::HeldBack(at, reason),
+        Ok(()) => Note::Stored(at, byte),
+        Err(reason) => Note::HeldBack(at, reason),
     }
 }
 
@@ -223,7 +223,7 @@ fn keep_rise(f: Figure, seen: Seen, wp: Line, shift: u16) -> Risen
             let verdict = may_keep(f, seen.latch, seen.kept, is_up(wp));
             let stage = Stage::Over { end: End::Drops };
             match verdict {
-                Verdict::Allowed => {
+                Ok(()) => {
                     let kept = byte & f.kept;
                     Risen {
                         stage,
@@ -232,7 +232,7 @@ fn keep_rise(f: Figure, seen: Seen, wp: Line, shift: u16) -> Risen
                         note: Note::KeptSet(kept),
                     }
                 }
-                Verdict::HeldBack(reason) => Risen {
+                Err(reason) => Risen {
                     stage,
                     latch: seen.latch,
                     kept: seen.kept,
