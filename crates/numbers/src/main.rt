@@ -2,8 +2,8 @@
 // refusal that stops it.
 #![tactic(auto)]
 
-use trace::answer::{Read, Refusal, number_of};
-use trace::items::{LAST_BYTE, pulses_of};
+use trace::answer::{Read, Refused};
+use trace::items::{FIRST_BYTE, LAST_BYTE, pulses_of};
 use trace::reader::{MOST_BYTES, number_at};
 
 // Standard input.
@@ -12,8 +12,8 @@ const STDIN_FILENO: i32 = 0;
 // Standard output.
 const STDOUT_FILENO: i32 = 1;
 
-// The first number that is a data byte.
-const FIRST_BYTE: u64 = 12;
+// "Pins: 0 /CS, 1 SCK, 2 SI, 3 /HOLD, 4 /WP, 5 VDD."
+const PINS: [&[u8]; 6] = [b"/CS", b"SCK", b"SI", b"/HOLD", b"/WP", b"VDD"];
 
 // What a number is by its place among the numbers.
 #[derive(Clone, Copy)]
@@ -21,6 +21,16 @@ enum Role {
     Part,
     Kept,
     Item,
+}
+
+impl Role {
+    // "The first number is the part, the second the kept bits, then items".
+    fn after(self) -> Role {
+        match self {
+            Role::Part => Role::Kept,
+            Role::Kept | Role::Item => Role::Item,
+        }
+    }
 }
 
 fn main() {
@@ -35,29 +45,20 @@ fn list(s: &[u8]) {
     let mut role = Role::Part;
     loop {
         match number_at(s, at) {
-            Read::Number { value, next } => {
+            Ok(Read::Number { value, next }) => {
                 number_line(at, role, value);
-                role = role_after(role);
+                role = role.after();
                 at = next;
             }
-            Read::End { at: place } => {
+            Ok(Read::End { at: place }) => {
                 end_line(place);
                 return;
             }
-            Read::Refused { refusal, at: place } => {
-                refusal_line(refusal, place);
+            Err(refused) => {
+                refusal_line(refused);
                 return;
             }
         }
-    }
-}
-
-// "The first number is the part, the second the kept bits, then items".
-fn role_after(role: Role) -> Role {
-    match role {
-        Role::Part => Role::Kept,
-        Role::Kept => Role::Item,
-        Role::Item => Role::Item,
     }
 }
 
@@ -75,8 +76,9 @@ fn number_line(at: usize, role: Role, value: u64) {
 fn say_item(value: u64) {
     if value < FIRST_BYTE {
         say(b" event ", value);
-        say_pin(value / 2);
-        say_level(value % 2);
+        write(b": ");
+        write(PINS[(value / 2) as usize]);
+        write(if value % 2 == 0 { b" low" } else { b" high" });
         return;
     }
     say(b" item ", value);
@@ -88,34 +90,14 @@ fn say_item(value: u64) {
     write(b" pulses");
 }
 
-// "Pins: 0 /CS, 1 SCK, 2 SI, 3 /HOLD, 4 /WP, 5 VDD."
-fn say_pin(pin: u64) {
-    match pin {
-        0 => write(b": /CS"),
-        1 => write(b": SCK"),
-        2 => write(b": SI"),
-        3 => write(b": /HOLD"),
-        4 => write(b": /WP"),
-        _ => write(b": VDD"),
-    }
-}
-
-fn say_level(level: u64) {
-    if level == 0 {
-        write(b" low");
-    } else {
-        write(b" high");
-    }
-}
-
 fn end_line(at: usize) {
     say(b"end at ", at as u64);
     write(b"\n");
 }
 
-fn refusal_line(refusal: Refusal, at: usize) {
-    say(b"refused ", number_of(refusal) as u64);
-    say(b" at ", at as u64);
+fn refusal_line(refused: Refused) {
+    say(b"refused ", u8::from(refused.refusal) as u64);
+    say(b" at ", refused.at as u64);
     write(b"\n");
 }
 

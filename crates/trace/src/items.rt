@@ -4,7 +4,7 @@ ghost use Rattle.trace.specs.Items.{short_events, clocked};
 ghost use Rattle.trace.specs.Figures.{last_byte, byte_events};
 
 // The first and the last number that is a data byte, and the events of one. `specs/Figures.antt` has them for the definitions.
-const FIRST_BYTE: u64 = 12;
+pub const FIRST_BYTE: u64 = 12;
 
 pub const LAST_BYTE: u64 = 267;
 
