@@ -18,11 +18,6 @@ use Rattle.pins.specs.Levels.{at_rest}
 use Rattle.pins.specs.Sound.{sound}
 use Rattle.pins.specs.SoundLaws.{rest_sound}
 
--- a check that answers Ok gives no refusal
-pub checked_none : (given : Option Refusal) → checked given ≡ Ok tt → given ≡ None
-checked_none None h = refl
-checked_none (Some why) h = grind arith
-
 both_passed :
     (a b : Bool) → cond (not a) (Some NoPart) (cond (not b) (Some ArrayLength) None) ≡ None → (a ≡ true) × (b ≡ true)
 both_passed false b h = absurd (none-some NoPart (sym h))

@@ -1,6 +1,7 @@
 -- A part and kept bits that pass the checks fit a byte, so no cast loses anything.
 use Rattle.std.proofs.Common.{sym, ◌∙◌}
-use Rattle.supply.specs.PowerLaws.{checked_none, power_part, power_kept}
+use Rattle.supply.specs.CheckedLaws.{checked_none}
+use Rattle.supply.specs.PowerLaws.{power_part, power_kept}
 use Rattle.supply.proofs.power.power_up.Goals as goal
 
 pub overflow_cast-part : goal.overflow_cast-part
