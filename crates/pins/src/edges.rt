@@ -1,6 +1,6 @@
 // The pins' edges, each a method that hands back the next state with the note. The edges of /CS and SCK build what they
 // hand back in place, and not by `silent`: time it before you change that (docs/SPEED.md).
-ghost use Rattle.std.specs.Prelude.{true, false, ◌≡◌};
+ghost use Rattle.std.specs.Prelude.{◌≡◌};
 ghost use Rattle.pins.specs.Edges.{silent, cs_fall, cs_rise, sck_rise, sck_fall, si_to, hold_fall, hold_rise, wp_to, vdd_fall, vdd_rise};
 
 use crate::hold::{Hold, hold_high};
@@ -161,21 +161,11 @@ impl State {
     }
 
     // SI has a level and no more.
-    pub fn si_rise(self) -> Moved
-        ensures { result ≡ si_to self true }
+    pub fn si_to(self, level: bool) -> Moved
+        ensures { result ≡ si_to self level }
     {
         let state = State {
-            si: Line::Up,
-            ..self
-        };
-        state.silent()
-    }
-
-    pub fn si_fall(self) -> Moved
-        ensures { result ≡ si_to self false }
-    {
-        let state = State {
-            si: Line::Down,
+            si: Line::from(level),
             ..self
         };
         state.silent()
@@ -186,19 +176,13 @@ impl State {
     pub fn hold_fall(self) -> Moved
         ensures { result ≡ hold_fall self }
     {
-        if self.cs() {
-            let state = State {
-                hold: Hold::LowCsHigh,
-                ..self
-            };
-            state.silent()
+        let hold = if self.cs() {
+            Hold::LowCsHigh
         } else {
-            let state = State {
-                hold: Hold::LowCsLow,
-                ..self
-            };
-            state.silent()
-        }
+            Hold::LowCsLow
+        };
+        let state = State { hold, ..self };
+        state.silent()
     }
 
     #[tactic(auto, unfolding(crate::specs::Edges::hold_rise))]
@@ -213,21 +197,11 @@ impl State {
     }
 
     // /WP has a level and no more.
-    pub fn wp_rise(self) -> Moved
-        ensures { result ≡ wp_to self true }
+    pub fn wp_to(self, level: bool) -> Moved
+        ensures { result ≡ wp_to self level }
     {
         let state = State {
-            wp: Line::Up,
-            ..self
-        };
-        state.silent()
-    }
-
-    pub fn wp_fall(self) -> Moved
-        ensures { result ≡ wp_to self false }
-    {
-        let state = State {
-            wp: Line::Down,
+            wp: Line::from(level),
             ..self
         };
         state.silent()

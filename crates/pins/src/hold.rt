@@ -14,9 +14,5 @@ pub enum Hold {
 pub fn hold_high(hold: Hold) -> bool
     ensures { result ≡ hold_high hold }
 {
-    match hold {
-        Hold::High => true,
-        Hold::LowCsLow => false,
-        Hold::LowCsHigh => false,
-    }
+    matches!(hold, Hold::High)
 }

@@ -69,8 +69,7 @@ impl State {
         let stage = self.stage;
         match hold {
             Hold::High => stage_level(stage),
-            Hold::LowCsLow => Level::Released,
-            Hold::LowCsHigh => Level::Released,
+            Hold::LowCsLow | Hold::LowCsHigh => Level::Released,
         }
     }
 }
