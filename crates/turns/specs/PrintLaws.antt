@@ -1,8 +1,12 @@
 -- Printing on a page: nothing, on a full page, one byte, and one text behind another, which is printing them as one.
 -- Assumes nothing.
-use Rattle.std.specs.Prelude.{◌≡◌, Bool, true, false, cond, List, [], ◌∷◌, ◌++◌, ℕ, suc, ◌+◌, ◌-◌, ◌≤◌, ◌<◌, length, set, take, drop, get_or}
+use Rattle.std.specs.Prelude.{◌≡◌, Bool, true, false, cond, List, [], ◌∷◌, ◌++◌, ℕ, suc, ◌+◌, ◌-◌, ◌≤◌, ◌<◌, length, min, set, take, drop, get_or}
 use Rattle.std.proofs.Common.{sym, ap, ◌∙◌, ⊎_elim, add-zero, add-suc, suc-add, add-one, arith, length-set, drop_of_length-le, length-take-le, take_at, drop-cons}
-use Rattle.std.proofs.Math.Seq.{length-sets, take-nil}
+use Rattle.std.proofs.Math.Nat.{min_comm}
+use Rattle.std.proofs.Math.Seq.{sets, length-sets, take-nil}
+use Rattle.std.proofs.lemmas.List.{take_min}
+use borrow.Rule.Slice.PartMut.{put_mid}
+use Rattle.report.proofs.Pieces.{written}
 use Rattle.trace.specs.ByteLaws.{below}
 use Rattle.turns.specs.Page.{Page, page_of, fits, printed}
 use Rattle.turns.specs.PageLaws.{cut_fits, printed_front}
@@ -23,6 +27,21 @@ unfolding printed
 print_one bs at x xs h =
     let room : length bs - at ≡ suc (length bs - suc at) = omega arith in
     rw (room, length-set bs at x, add-suc, suc-add)
+
+-- as much of a text as has room, written over the part of the slice that is as long
+pub print_part : (bs text part : List ℕ) (at k n : ℕ) → at ≤ length bs → n ≡ min (length text) (length bs - at) → k ≡ n → part ≡ take n text
+    → page_of (put_mid at k bs part) (at + n) ≡ printed (page_of bs at) text
+unfolding printed
+print_part bs text part at k n h is size e = λ i. page_of ((stored ∙ ap (sets bs at) front) i) (at + (counted ∙ ap length front) i)
+  where
+    counted : n ≡ length (take n text)
+    counted = sym (length-take-le n text (omega (arith, is)))
+
+    stored : put_mid at k bs part ≡ sets bs at (take n text)
+    stored = (written bs (take n text) part at k (omega (arith, is, counted)) (size ∙ counted) e).bytes
+
+    front : take n text ≡ take (length bs - at) text
+    front = rw (is, min_comm (length text) (length bs - at)) (take_min (length bs - at) text)
 
 -- a text behind another is the two as one
 pub print_twice : (bs : List ℕ) (at : ℕ) (a b : List ℕ) → printed (printed (page_of bs at) a) b ≡ printed (page_of bs at) (a ++ b)

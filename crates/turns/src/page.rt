@@ -10,19 +10,15 @@ use report::lines::{LINE, end_line, part_line, select_line};
 use report::record::SHOWN;
 
 // The bytes of a text.
-fn print(out: &mut [u8], at: usize, text: &[u8]) -> usize
+pub fn print(out: &mut [u8], at: usize, text: &[u8]) -> usize
     ensures { page_of out.new result ≡ printed (page_of out.old at) text.now }
 {
-    let mut next = at;
-    let mut i = 0;
-    while i < text.len() {
-        if out.len() <= next {
-            return next;
-        }
-        out[next] = text[i];
-        next += 1;
-        i += 1;
+    if out.len() <= at {
+        return at;
     }
+    let n = text.len().min(out.len() - at);
+    let next = at + n;
+    out[at..next].copy_from_slice(&text[..n]);
     next
 }
 

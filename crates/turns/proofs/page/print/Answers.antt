@@ -1,14 +1,12 @@
--- Wherever the loop is, the bytes that are left lead from there to where the whole text leads from the start.
-use mathlib.Core.Path.{sym, ◌∙◌}
-use borrow.Author.Rules.{rules}
-use Rattle.turns.specs.PrintLaws.{print_full, print_on, print_over}
+-- A full slice takes nothing; else as much of the text as has room is written over the part that is as long.
+use Rattle.std.proofs.Common.{◌≤◌, length, sym, arith}
+use Rattle.turns.specs.PrintLaws.{print_full, print_part}
 use Rattle.turns.proofs.page.print.Goals as goal
 
-pub returns-then-out-next : goal.returns-then-out-next
-returns-then-out-next c = search (print_full, sym, ◌∙◌)
-
-pub loop-i-preserved : goal.loop-i-preserved
-loop-i-preserved c = search (rules, print_on, ◌∙◌)
+pub returns-then-out-at : goal.returns-then-out-at
+returns-then-out-at c = sym (print_full _ _ _ c.if-out-at.true)
 
 pub returns : goal.returns
-returns c = search (print_over, ◌∙◌)
+returns c =
+    let inside : c.args.at ≤ length c.args.out.now = omega arith in
+    print_part _ _ _ _ _ _ inside c.min-n.ensures (omega arith) c.copy_from_slice.ensures.after
