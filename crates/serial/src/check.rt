@@ -7,6 +7,7 @@ ghost use Rattle.serial.specs.Promises.{CheckPromise};
 ghost use Rattle.serial.specs.Table.{crc_of, table};
 
 use parts::figures::SERIAL;
+use refusals::refusal::Refusal;
 
 // "a table of 256 entries for that check, which we keep as printed"
 const TABLE: [u8; 256] = [
@@ -28,28 +29,16 @@ const TABLE: [u8; 256] = [
     0xDE, 0xD9, 0xD0, 0xD7, 0xC2, 0xC5, 0xCC, 0xCB, 0xE6, 0xE1, 0xE8, 0xEF, 0xFA, 0xFD, 0xF4, 0xF3,
 ];
 
-// Whether the long division gives the check byte; the last is refusal 15.
-#[derive(Clone, Copy)]
-pub enum Checked {
-    Yes,
-    No,
-    WrongLength,
-}
-
 // "says yes exactly when the long division gives a serial number's check byte"
 #[tactic(auto, unfolding(crate::specs::Table::table))]
-pub fn check(serial: &[u8]) -> Checked
+pub fn check(serial: &[u8]) -> Result<bool, Refusal>
     ensures { CheckPromise serial.now result }
 {
     if serial.len() != SERIAL {
-        return Checked::WrongLength;
+        return Err(Refusal::SerialLength);
     }
     let last = serial[SERIAL - 1];
-    if crc_of(&TABLE, &serial[..SERIAL - 1]) == last {
-        Checked::Yes
-    } else {
-        Checked::No
-    }
+    Ok(crc_of(&TABLE, &serial[..SERIAL - 1]) == last)
 }
 
 // "BYTE crc = 0; while( nBytes-- ) crc = crctable[crc ^ *pData++];" The table is lent: read by its name it would be built anew for
@@ -59,11 +48,8 @@ fn crc_of(crcs: &[u8; 256], bytes: &[u8]) -> u8
     ensures { result ≡ crc_of bytes.now 0 }
 {
     let mut crc = 0u8;
-    let mut i = 0;
-    while i < bytes.len() {
-        let at = place(crc, bytes[i]);
-        crc = crcs[at];
-        i += 1;
+    for byte in bytes {
+        crc = crcs[place(crc, *byte)];
     }
     crc
 }
