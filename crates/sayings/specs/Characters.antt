@@ -1,5 +1,5 @@
--- Characters: what each is for the parting of words, as a letter of a word, and as a digit. Assumes nothing.
-use Rattle.std.specs.Prelude.{ℕ, ◌+◌, ◌-◌, Bool, cond, ◌&&◌, ◌||◌, List, [], ◌∷◌, eqb, leb, get_or}
+-- Characters: what each is for the parting of words, and as a digit. Assumes nothing.
+use Rattle.std.specs.Prelude.{ℕ, ◌+◌, ◌-◌, Bool, cond, ◌&&◌, ◌||◌, List, [], ◌∷◌, Option, Some, None, eqb, leb, get_or}
 use Prim.Native.Char.{code}
 use Prim.Native.String.{String, [] as none, ◌∷◌ as ◌then◌}
 use Rattle.sayings.specs.declared.chars.Kind.{Kind}
@@ -26,14 +26,10 @@ kind_of c =
 abbrev pub within : ℕ → ℕ → ℕ → Bool
 within first last c = leb first c && leb c last
 
--- "upper and lower case alike": the small letter of a capital
-unfoldable pub lowered : ℕ → ℕ
-lowered c = cond (within (char "A") (char "Z") c) (c + 32) c
-
--- the value of a hex digit, and 16 of any other character
-unfoldable pub digit_of : ℕ → ℕ
+-- the value of a hex digit, and none of any other character
+unfoldable pub digit_of : ℕ → Option ℕ
 digit_of c =
-    cond (within (char "0") (char "9") c) (c - char "0")
-    (cond (within (char "A") (char "F") c) (c - char "A" + 10)
-    (cond (within (char "a") (char "f") c) (c - char "a" + 10)
-    16))
+    cond (within (char "0") (char "9") c) (Some (c - char "0"))
+    (cond (within (char "A") (char "F") c) (Some (c - char "A" + 10))
+    (cond (within (char "a") (char "f") c) (Some (c - char "a" + 10))
+    None))

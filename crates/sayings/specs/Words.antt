@@ -1,43 +1,43 @@
 -- Words as names, bytes and numbers. Assumes nothing.
-use Rattle.std.specs.Prelude.{ℕ, ◌+◌, ◌*◌, Bool, true, false, cond, ◌&&◌, List, [], ◌∷◌, eqb, leb, ltb, length, get_or}
+use Rattle.std.specs.Prelude.{ℕ, ◌+◌, ◌*◌, Bool, cond, ◌&&◌, ◌||◌, List, [], ◌∷◌, Option, Some, None, nat_eq, eqb, leb, ltb, length, get_or}
+use Rattle.std.specs.Char.{to_ascii_lowercase}
+use Rattle.std.specs.List.{list_all, zip}
+use Rattle.std.specs.Option.{option_and_then}
 use Rattle.trace.specs.Figures.{largest}
-use Rattle.sayings.specs.Characters.{lowered, digit_of}
-use Rattle.sayings.specs.declared.words.Numeral.{Numeral}
-use Rattle.sayings.specs.declared.words.Numeral.TheVariants.{Not, Is}
+use Rattle.sayings.specs.Characters.{char, digit_of}
 
--- letters that are those of a name, which has small ones
-abbrev pub same_as : List ℕ → List ℕ → Bool
-same_as [] [] = true
-same_as [] (n ∷ ns) = false
-same_as (c ∷ cs) [] = false
-same_as (c ∷ cs) (n ∷ ns) = eqb (lowered c) n && same_as cs ns
-
--- a word is a name, "upper and lower case alike"
+-- a word is a name, "upper and lower case alike"; a name has small letters
 unfoldable pub named : List ℕ → List ℕ → Bool
-named w name = same_as w name
+named w name = nat_eq (length w) (length name) && list_all (λ p. nat_eq (to_ascii_lowercase p.0) p.1) (zip w name)
+
+-- the number that two hex digits say
+abbrev pub two_digits : Option ℕ → Option ℕ → Option ℕ
+two_digits (Some high) (Some low) = Some (high * 16 + low)
+two_digits (Some high) None = None
+two_digits None low = None
 
 -- "two hex digits"
-unfoldable pub byte_of : List ℕ → Numeral
-byte_of w =
-    let high = digit_of (get_or w 0 0) in
-    let low = digit_of (get_or w 1 0) in
-    cond (eqb (length w) 2 && (ltb high 16 && ltb low 16)) (Is (high * 16 + low)) Not
+unfoldable pub byte_of : List ℕ → Option ℕ
+byte_of w = cond (eqb (length w) 2) (two_digits (digit_of (get_or w 0 0)) (digit_of (get_or w 1 0))) None
 
--- decimal digits after those that say n; with each of them the number is a trace number still
-abbrev pub digits_after : ℕ → List ℕ → Numeral
-digits_after n [] = Is n
-digits_after n (c ∷ cs) =
-    let longer = n * 10 + digit_of c in
-    cond (ltb (digit_of c) 10 && leb longer largest) (digits_after longer cs) Not
+-- the number that n and one more decimal digit say, where it is a trace number still
+abbrev pub longer : ℕ → Option ℕ → Option ℕ
+longer n (Some d) = cond (ltb d 10 && leb (n * 10 + d) largest) (Some (n * 10 + d)) None
+longer n None = None
+
+-- decimal digits after those that say n
+abbrev pub digits_after : ℕ → List ℕ → Option ℕ
+digits_after n [] = Some n
+digits_after n (c ∷ cs) = option_and_then (λ m. digits_after m cs) (longer n (digit_of c))
 
 -- a word of decimal digits that is a trace number
-unfoldable pub number_of : List ℕ → Numeral
+unfoldable pub number_of : List ℕ → Option ℕ
 number_of w = digits_after 0 w
 
-abbrev pub zeros_ones : List ℕ → Bool
-zeros_ones [] = true
-zeros_ones (c ∷ cs) = ltb (digit_of c) 2 && zeros_ones cs
+-- "bits, each 0 or 1"
+abbrev pub is_bit : ℕ → Bool
+is_bit c = eqb c (char "0") || eqb c (char "1")
 
 -- a word of bits
 unfoldable pub all_bits : List ℕ → Bool
-all_bits w = zeros_ones w
+all_bits w = list_all is_bit w

@@ -1,9 +1,9 @@
-// Characters: what each is for the parting of words, as a letter of a word, and as a digit.
+// Characters: what each is for the parting of words, and as a digit.
 ghost use Rattle.std.specs.Prelude.{◌≡◌};
-ghost use Rattle.sayings.specs.Characters.{kind_of, lowered, digit_of};
+ghost use Rattle.sayings.specs.Characters.{kind_of, digit_of};
 
 // What a character is outside a comment.
-#[derive(Clone, Copy)]
+#[derive(Clone, Copy, Debug, PartialEq, Eq)]
 pub enum Kind {
     NewLine,
     Hash,
@@ -16,42 +16,18 @@ pub enum Kind {
 pub fn kind_of(c: u8) -> Kind
     ensures { result ≡ kind_of c }
 {
-    if c == b'\n' {
-        return Kind::NewLine;
+    match c {
+        b'\n' => Kind::NewLine,
+        b'#' => Kind::Hash,
+        b' ' | b'\t' | b'\r' => Kind::Blank,
+        _ => Kind::Letter,
     }
-    if c == b'#' {
-        return Kind::Hash;
-    }
-    if (c == b' ') | (c == b'\t') | (c == b'\r') {
-        return Kind::Blank;
-    }
-    Kind::Letter
 }
 
-// The small letter of a capital; any other character as it is.
-#[tactic(auto, unfolding(crate::specs::Characters::lowered))]
-pub(crate) fn lower(c: u8) -> u8
-    ensures { result ≡ lowered c }
-{
-    if (b'A' <= c) & (c <= b'Z') {
-        return c + 32;
-    }
-    c
-}
-
-// The value of a hex digit, capital or small, and 16 of any other character.
+// The value of a hex digit, capital or small.
 #[tactic(auto, unfolding(crate::specs::Characters::digit_of))]
-pub fn digit(c: u8) -> u8
+pub fn digit(c: u8) -> Option<u32>
     ensures { result ≡ digit_of c }
 {
-    if (b'0' <= c) & (c <= b'9') {
-        return c - b'0';
-    }
-    if (b'A' <= c) & (c <= b'F') {
-        return c - b'A' + 10;
-    }
-    if (b'a' <= c) & (c <= b'f') {
-        return c - b'a' + 10;
-    }
-    16
+    char::from(c).to_digit(16)
 }

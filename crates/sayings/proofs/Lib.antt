@@ -1,2 +1,0 @@
-pub mod WordTurns
-pub mod NameTurns
