@@ -1,9 +1,7 @@
--- The place goes forward, and stays in the bytes, which keep their length.
-use Rattle.std.proofs.Common.{◌-◌, ◌≤◌, length}
+-- One byte a pair.
+use Rattle.std.proofs.Common.{◌≤◌, length}
 use Rattle.serials.proofs.bytes_of.Given as goal
 
-abbrev pub invariant-loop-n : goal.invariant-loop-n
-invariant-loop-n l = l.n ≤ length l.bytes
-
-abbrev pub decreases-loop-n : goal.decreases-loop-n
-decreases-loop-n l = length l.bytes - l.n
+abbrev pub invariant-loop-room : goal.invariant-loop-room
+invariant-loop-room l =
+    goal.iterator-loop-room.can_next l.room-iterator × goal.iterator-loop-room.is_finite l.room-iterator × (l.n ≤ length l.yielded)
