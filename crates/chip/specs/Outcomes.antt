@@ -5,6 +5,7 @@ use Rattle.std.specs.Prelude.{ℕ, ◌≡◌, Bool, List}
 use Rattle.std.proofs.Common.{ap}
 use Rattle.laws.specs.TestLaws.{sole}
 use Rattle.select.specs.NoteLaws.{level_sole, note_sole}
+use Rattle.refusals.specs.RefusalLaws.{given_sole}
 use Rattle.chip.specs.Answers.{Paper, paper}
 use Rattle.chip.specs.Promises.{EventPromise, ListPromise}
 use Rattle.pins.specs.Sound.{sound}
@@ -13,8 +14,11 @@ use Rattle.chip.specs.declared.list.Listed.{Listed}
 use Rattle.pins.specs.declared.state.State.{State}
 
 pub paper_sole : (a b : Answer) → paper a ≡ paper b → a ≡ b
-paper_sole a b e = λ i. record { refusal = (e i).refusal; so = so i; note = note i; state = (e i).state }
+paper_sole a b e = λ i. record { refusal = refusal i; so = so i; note = note i; state = (e i).state }
   where
+    refusal : a.refusal ≡ b.refusal
+    refusal = given_sole a.refusal b.refusal (ap (λ (p : Paper). p.refusal) e)
+
     so : a.so ≡ b.so
     so = level_sole a.so b.so (ap (λ (p : Paper). p.so) e)
 

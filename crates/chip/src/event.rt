@@ -1,44 +1,47 @@
 // One event.
-ghost use Rattle.std.specs.Prelude.{◌≡◌};
+ghost use Rattle.std.specs.Prelude.{Err, ◌≡◌};
 ghost use Rattle.chip.specs.Event.{answer_of};
 ghost use Rattle.chip.specs.Loop.{last_step};
 ghost use Rattle.chip.specs.Promises.{EventPromise};
 
-use crate::run::{Ran, go, lend_refusal};
+use crate::run::{Ran, check_lent, go};
 use pins::state::State;
+use refusals::refusal::Refusal;
 use select::notes::{Level, Note};
 
 // The answer to an event.
 #[derive(Clone, Copy)]
 pub struct Answer {
-    pub refusal: u8,
+    pub refusal: Option<Refusal>,
     pub so: Level,
     pub note: Note,
     pub state: State,
 }
 
-// SO as it is after the event, released where that was refused.
-fn answer_of(ran: Ran) -> Answer
-    ensures { result ≡ answer_of (last_step ran) }
+// "Any other refusal returns its number with the state given; SO reads released, the note is nothing."
+fn refused(refusal: Refusal, state: State) -> Answer
+    ensures { result ≡ answer_of state (Err refusal) }
 {
-    let refusal = ran.refusal;
-    let note = ran.note;
-    let state = ran.state;
-    if refusal == 0 {
-        let so = state.so();
-        Answer {
-            refusal,
-            so,
-            note,
-            state,
-        }
-    } else {
-        Answer {
-            refusal,
-            so: Level::Released,
-            note,
-            state,
-        }
+    Answer {
+        refusal: Some(refusal),
+        so: Level::Released,
+        note: Note::Nothing,
+        state,
+    }
+}
+
+// The answer to the one event of a list.
+fn answer_of(ran: Ran) -> Answer
+    ensures { result ≡ answer_of ran.state (last_step ran) }
+{
+    match ran.refusal {
+        None => Answer {
+            refusal: None,
+            so: ran.state.so(),
+            note: ran.note,
+            state: ran.state,
+        },
+        Some(refusal) => refused(refusal, ran.state),
     }
 }
 
@@ -46,17 +49,8 @@ fn answer_of(ran: Ran) -> Answer
 pub fn event(state: State, array: &mut [u8], serial: &[u8], code: u64) -> Answer
     ensures { EventPromise serial.now array.old state code result array.new }
 {
-    let refusal = lend_refusal(state, array.len(), serial.len());
-    if refusal == 0 {
-        let codes = [code];
-        let mut levels = [0u8];
-        answer_of(go(state, array, serial, &codes, &mut levels))
-    } else {
-        Answer {
-            refusal,
-            so: Level::Released,
-            note: Note::Nothing,
-            state,
-        }
+    match check_lent(state, array.len(), serial.len()) {
+        Ok(()) => answer_of(go(state, array, serial, &[code], &mut [0])),
+        Err(refusal) => refused(refusal, state),
     }
 }

@@ -1,32 +1,37 @@
 // A whole list of events at once (document 02, Wish 1).
 ghost use Rattle.std.specs.Prelude.{◌≡◌};
+ghost use Rattle.supply.specs.Power.{checked};
 ghost use Rattle.chip.specs.List.{list_refusal};
 ghost use Rattle.chip.specs.Promises.{ListPromise};
 
-use crate::run::{go, lend_refusal};
+use crate::run::{check_lent, go};
 use pins::state::State;
+use refusals::refusal::Refusal;
 
-// The answer to a list: the refusal that stopped it, or 0, the count of events accepted, and the state that they made.
+// The answer to a list: the refusal that stopped it, the count of events accepted, and the state that they made.
 #[derive(Clone, Copy)]
 pub struct Listed {
-    pub refusal: u8,
+    pub refusal: Option<Refusal>,
     pub count: usize,
     pub state: State,
 }
 
-// The refusals that come before the first event; 0 where none is given.
+// The checks that come before the first event.
 #[tactic(auto, unfolding(crate::specs::List::list_refusal))]
-fn list_refusal(state: State, len: usize, serial: usize, codes: usize, levels: usize) -> u8
-    ensures { result ≡ list_refusal state len serial codes levels }
+fn check_list(
+    state: State,
+    len: usize,
+    serial: usize,
+    codes: usize,
+    levels: usize,
+) -> Result<(), Refusal>
+    ensures { result ≡ checked (list_refusal state len serial codes levels) }
 {
-    let lent = lend_refusal(state, len, serial);
-    if lent != 0 {
-        return lent;
-    }
+    check_lent(state, len, serial)?;
     if levels < codes {
-        return 12;
+        return Err(Refusal::FewAnswers);
     }
-    0
+    Ok(())
 }
 
 // The codes one after the other on the lent array, with the lent serial number. SO after each accepted event goes to the event's
@@ -41,20 +46,19 @@ pub fn events(
     ensures { ListPromise serial.now array.old state codes.now levels.old result
         array.new levels.new }
 {
-    let refusal = list_refusal(state, array.len(), serial.len(), codes.len(), levels.len());
-    if refusal == 0 {
-        let ran = go(state, array, serial, codes, levels);
-        let state = ran.state;
-        Listed {
-            refusal: ran.refusal,
-            count: ran.count,
-            state,
+    match check_list(state, array.len(), serial.len(), codes.len(), levels.len()) {
+        Ok(()) => {
+            let ran = go(state, array, serial, codes, levels);
+            Listed {
+                refusal: ran.refusal,
+                count: ran.count,
+                state: ran.state,
+            }
         }
-    } else {
-        Listed {
-            refusal,
+        Err(refusal) => Listed {
+            refusal: Some(refusal),
             count: 0,
             state,
-        }
+        },
     }
 }

@@ -1,54 +1,62 @@
 // What the event call and the list call share: the checks of what is lent, and the loop over event codes. The loop alone calls
 // `step`: a large function called at one place stays in the loop when it is compiled. Both read the part's row for themselves, so
 // that they stay two functions and the checks take no room in the loop (docs/SPEED.md).
-ghost use Rattle.std.specs.Prelude.{◌≡◌, ◌≤◌, length};
+ghost use Rattle.std.specs.Prelude.{None, ◌≡◌, ◌≤◌, length};
 ghost use Rattle.parts.specs.Figures.{figure_of};
 ghost use Rattle.select.specs.Notes.{level_number};
+ghost use Rattle.supply.specs.Power.{checked};
 ghost use Rattle.chip.specs.Event.{lend_refusal, tried};
 ghost use Rattle.chip.specs.List.{set_all_out, course};
 ghost use Rattle.chip.specs.Loop.{course_of};
 
 use parts::figures::{Figure, figure_of, takes_serial};
 use pins::sound::sound_by;
-use pins::state::State;
+use pins::state::{Moved, State};
+use refusals::refusal::Refusal;
 use select::notes::{Level, Note};
-use step::step::{Stepped, refuse, step, store};
+use step::step::{step, store};
 
-// How far the codes were taken: the refusal that stopped them, or 0, the count of those accepted, the last one's note,
-// and the state that they made.
+// How far the codes were taken: the refusal that stopped them, the count of those accepted, the last one's note, and the state
+// that they made.
 #[derive(Clone, Copy)]
 pub(crate) struct Ran {
-    pub(crate) refusal: u8,
+    pub(crate) refusal: Option<Refusal>,
     pub(crate) count: usize,
     pub(crate) note: Note,
     pub(crate) state: State,
 }
 
-// The refusals of a state and of what is lent with it, an array and a serial number; 0 where none is given.
-pub(crate) fn lend_refusal(state: State, len: usize, serial: usize) -> u8
-    ensures { result ≡ lend_refusal state len serial }
+// The checks of a state and of what is lent with it, an array and a serial number.
+pub(crate) fn check_lent(state: State, len: usize, serial: usize) -> Result<(), Refusal>
+    ensures { result ≡ checked (lend_refusal state len serial) }
 {
     let f = figure_of(state.part as u64);
     if !sound_by(f, state) {
-        return 4;
+        return Err(Refusal::Unsound);
     }
     if len != f.size {
-        return 2;
+        return Err(Refusal::ArrayLength);
     }
     if !takes_serial(f, serial) {
-        return 15;
+        return Err(Refusal::SerialLength);
     }
-    0
+    Ok(())
 }
 
 // One event where nothing is refused of the state and what is lent with it: 5 is all that is left to check before the step.
-fn attempt(f: Figure, state: State, array: &[u8], serial: &[u8], code: u64) -> Stepped
+fn attempt(
+    f: Figure,
+    state: State,
+    array: &[u8],
+    serial: &[u8],
+    code: u64,
+) -> Result<Moved, Refusal>
     requires parts_row { f ≡ figure_of state.part }
-    requires nothing_refused { lend_refusal state (length array.now) (length serial.now) ≡ 0 }
+    requires nothing_refused { lend_refusal state (length array.now) (length serial.now) ≡ None }
     ensures { result ≡ tried f serial.now array.now state code }
 {
     if 12 <= code {
-        refuse(5, state)
+        Err(Refusal::NoEvent)
     } else {
         step(f, state, array, serial, code as u8)
     }
@@ -74,36 +82,35 @@ pub(crate) fn go(
     codes: &[u64],
     levels: &mut [u8],
 ) -> Ran
-    requires nothing_refused { lend_refusal state (length array.old) (length serial.now) ≡ 0 }
+    requires nothing_refused { lend_refusal state (length array.old) (length serial.now) ≡ None }
     requires codes_in_bounds { length codes.now ≤ length levels.old }
     ensures { course_of result array.new levels.new
-        ≡ course serial.now (set_all_out 0 state array.old levels.old) codes.now }
+        ≡ course serial.now (set_all_out None state array.old levels.old) codes.now }
 {
     let f = figure_of(state.part as u64);
     let mut state = state;
     let mut note = Note::Nothing;
-    let mut i = 0;
-    while i < codes.len() {
-        let next = i + 1;
-        let stepped = attempt(f, state, array, serial, codes[i]);
-        let refusal = stepped.refusal;
-        if refusal != 0 {
-            return Ran {
-                refusal,
-                count: i,
-                note: Note::Nothing,
-                state,
-            };
+    for i in 0..codes.len() {
+        match attempt(f, state, array, serial, codes[i]) {
+            Ok(moved) => {
+                note = moved.note;
+                state = moved.state;
+                store(array, note);
+                levels[i] = level_number(state.so());
+            }
+            Err(refusal) => {
+                return Ran {
+                    refusal: Some(refusal),
+                    count: i,
+                    note: Note::Nothing,
+                    state,
+                };
+            }
         }
-        note = stepped.note;
-        state = stepped.state;
-        store(array, note);
-        levels[i] = level_number(state.so());
-        i = next;
     }
     Ran {
-        refusal: 0,
-        count: i,
+        refusal: None,
+        count: codes.len(),
         note,
         state,
     }

@@ -1,6 +1,6 @@
 -- How an example is run and what is told of it: every answer counts, and the whole state at the end. Computed from the
 -- definitions that the calls' promises cite. Assumes nothing.
-use Rattle.std.specs.Prelude.{ℕ, ◌*◌, Bool, true, false, cond, ◌&&◌, List, [], ◌∷◌, ◌++◌, map, set, take, replicate, eqb}
+use Rattle.std.specs.Prelude.{ℕ, ◌*◌, Bool, true, false, cond, ◌&&◌, List, [], ◌∷◌, ◌++◌, map, set, take, replicate, eqb, Option, Some, None, is_none}
 use Rattle.trace.specs.Items.{clocked}
 use Rattle.laws.specs.Bits.{bit_at}
 use Rattle.parts.specs.Figures.{figure_of}
@@ -24,6 +24,8 @@ use Rattle.pins.specs.Watch.{sees_rise}
 use Rattle.pins.specs.declared.hold.Hold.{Hold}
 use Rattle.pins.specs.declared.hold.Hold.TheVariants.{High, LowCsLow, LowCsHigh}
 use Rattle.pins.specs.declared.state.State.{State}
+use Rattle.refusals.specs.Refusals.{number_of}
+use Rattle.refusals.specs.declared.refusal.Refusal.{Refusal}
 use Rattle.chip.specs.Event.{event}
 use Rattle.supply.specs.Power.{fill_refusal, fresh, filled, power_up}
 use Rattle.chip.specs.declared.event.Answer.{Answer}
@@ -50,7 +52,7 @@ clocks n byte = take (3 * n) (clocked byte)
 abbrev pub wren : List ℕ
 wren = transfer (0x06 ∷ [])
 
--- an example: the part, its kept bits at power-up and what is sent; then what it should give: each refusal that is not 0,
+-- an example: the part, its kept bits at power-up and what is sent; then what it should give: the number of each refusal,
 -- each note that is not nothing, each byte that SO showed, SO in the last answer, and the whole state at the end
 pub record Example : Type 0 where
   pub part : ℕ
@@ -88,8 +90,9 @@ pub record Told : Type 0 where
   pub so : ℕ
   pub chip : Chip
 
-abbrev pub refusal_then : ℕ → List ℕ → List ℕ
-refusal_then n more = cond (eqb n 0) more (n ∷ more)
+abbrev pub refusal_then : Option Refusal → List ℕ → List ℕ
+refusal_then None more = more
+refusal_then (Some why) more = number_of why ∷ more
 
 abbrev pub note_then : NoteNumbers → List ℕ → List ℕ
 note_then n more = cond (eqb n.kind 0) more (n.kind ∷ n.first ∷ n.second ∷ more)
@@ -217,8 +220,8 @@ own_serial = 0x12 ∷ 0x34 ∷ 0x9A ∷ 0x00 ∷ 0xFF ∷ 0x5A ∷ 0x81 ∷ 0x38
 abbrev pub holds : Example → Bool
 holds e =
     let xs = filled e.part fresh (lent e.part) in
-    eqb (fill_refusal e.part (figure_of e.part).size) 0
-    && eqb (power_up e.part e.kept xs).refusal 0
+    is_none (fill_refusal e.part (figure_of e.part).size)
+    && is_none (power_up e.part e.kept xs).refusal
     && ends e (told_of (from_power_up e.part e.kept xs own_serial) 2 e.events)
 
 abbrev pub all_hold : List Example → Bool
