@@ -1,16 +1,18 @@
 -- The list call among the others: it leaves what the chip's run over the accepted events leaves, and a list in two pieces is
 -- the list in one. Assumes nothing.
-use Rattle.std.specs.Prelude.{ℕ, suc, ◌+◌, ◌≤◌, ◌≡◌, Bool, true, false, cond, eqb, length, set, take, drop}
+use Rattle.std.specs.Prelude.{ℕ, suc, ◌+◌, ◌≤◌, ◌≡◌, Bool, true, false, cond, length, set, take, drop, Option, Some, None, is_none}
 use Rattle.std.proofs.Math.Path.{refl, ap}
 use Rattle.std.proofs.Common.{sym, ◌∙◌, add_assoc, zero-add, arith, length-set, length-drop, take-append-drop, length-take-le}
 use mathlib.Core.List.{List, [], ◌∷◌, ◌++◌}
 use Rattle.std.proofs.Math.Nat.{add-zero}
-use borrow.Author.Tests.{ne_eqb, eqb-true, eqb-false, le-ltb}
+use borrow.Author.Tests.{le-ltb}
 use Rattle.std.proofs.Math.ListN.{length-append}
 use Rattle.pins.specs.declared.state.State.{State}
 use Rattle.select.specs.Notes.{level_number}
 use Rattle.select.specs.declared.notes.Note.{Note}
 use Rattle.step.specs.Step.{written}
+use Rattle.refusals.specs.declared.refusal.Refusal.{Refusal}
+use Rattle.supply.specs.CheckedLaws.{some_given, given_not_none}
 use Rattle.chip.specs.Event.{lend_refusal, event}
 use Rattle.chip.specs.List.{Course, set_all_out, took_one, stops_at, turn, course, list_refusal, listed}
 use Rattle.chip.proofs.ListLaws.{course_stays, listed_runs, listed_stops, list_passed, list_none}
@@ -29,7 +31,7 @@ module _ (serial : List ℕ) where
   unfoldable more : Course → List ℕ → ℕ
   more c [] = 0
   more c (code ∷ codes) =
-      cond (eqb (event serial c.array c.state code).refusal 0) (suc (more (turn c (event serial c.array c.state code)) codes)) 0
+      cond (is_none (event serial c.array c.state code).refusal) (suc (more (turn c (event serial c.array c.state code)) codes)) 0
 
   one_on : (n m : ℕ) → n + 1 + m ≡ n + suc m
   one_on n m = omega arith
@@ -41,10 +43,10 @@ module _ (serial : List ℕ) where
   abbrev Runs : Course → List ℕ → Type 0
   Runs c codes = ((course serial c codes).count ≡ c.count + more c codes) × (course_chip serial (course serial c codes) ≡ run (course_chip serial c) (take (more c codes) codes))
 
-  runs : (c : Course) (codes : List ℕ) → eqb c.refusal 0 ≡ true → Runs c codes
+  runs : (c : Course) (codes : List ℕ) → is_none c.refusal ≡ true → Runs c codes
   unfolding more course run next
   runs c [] fine = (rw add-zero, refl)
-  runs c (code ∷ codes) fine = rw fine (go (runs (took_one c a) codes refl) (eqb a.refusal 0) refl)
+  runs c (code ∷ codes) fine = rw fine (go (runs (took_one c a) codes refl) (is_none a.refusal) refl)
     where
       a : Answer
       a = event serial c.array c.state code
@@ -55,7 +57,7 @@ module _ (serial : List ℕ) where
       end : Course
       end = stops_at c a.refusal
 
-      go : Runs on codes → (t : Bool) → eqb a.refusal 0 ≡ t
+      go : Runs on codes → (t : Bool) → is_none a.refusal ≡ t
           → ((course serial (cond t on end) codes).count ≡ c.count + cond t (suc (more (cond t on end) codes)) 0)
           × (course_chip serial (course serial (cond t on end) codes) ≡ run (course_chip serial c) (take (cond t (suc (more (cond t on end) codes)) 0) (code ∷ codes)))
       go later true e = (later.0 ∙ one_on c.count (more on codes), later.1)
@@ -68,31 +70,31 @@ module _ (serial : List ℕ) where
 
     pub listed_run : course_chip serial (listed serial xs s codes levels) ≡ run chip (take (listed serial xs s codes levels).count codes)
     unfolding run
-    listed_run = go (eqb (list_refusal s (length xs) (length serial) (length codes) (length levels)) 0) refl
+    listed_run = go (list_refusal s (length xs) (length serial) (length codes) (length levels)) refl
       where
         Goal : Course → Type 0
         Goal c = course_chip serial c ≡ run chip (take c.count codes)
 
-        ran : Goal (course serial (set_all_out 0 s xs levels) codes)
+        ran : Goal (course serial (set_all_out None s xs levels) codes)
         ran =
-            (runs (set_all_out 0 s xs levels) codes refl).1
-            ∙ ap (λ (n : ℕ). run chip (take n codes)) (sym ((runs (set_all_out 0 s xs levels) codes refl).0 ∙ from_none (more (set_all_out 0 s xs levels) codes)))
+            (runs (set_all_out None s xs levels) codes refl).1
+            ∙ ap (λ (n : ℕ). run chip (take n codes)) (sym ((runs (set_all_out None s xs levels) codes refl).0 ∙ from_none (more (set_all_out None s xs levels) codes)))
 
-        go : (t : Bool) → eqb (list_refusal s (length xs) (length serial) (length codes) (length levels)) 0 ≡ t → Goal (listed serial xs s codes levels)
-        go true e = rw (listed_runs serial xs s codes levels (eqb-true _ _ e)) ran
-        go false e = rw (listed_stops serial xs s codes levels (eqb-false _ _ e)) refl
+        go : (given : Option Refusal) → list_refusal s (length xs) (length serial) (length codes) (length levels) ≡ given → Goal (listed serial xs s codes levels)
+        go None e = rw (listed_runs serial xs s codes levels e) ran
+        go (Some why) e = rw (listed_stops serial xs s codes levels e) refl
 
   -- ---- a list in two pieces
 
   pub course_append : (c : Course) (ps qs : List ℕ) → course serial c (ps ++ qs) ≡ course serial (course serial c ps) qs
   unfolding course
   course_append c [] qs = refl
-  course_append c (p ∷ ps) qs = go (course_append (turn c (event serial c.array c.state p)) ps qs) (eqb c.refusal 0) refl
+  course_append c (p ∷ ps) qs = go (course_append (turn c (event serial c.array c.state p)) ps qs) (is_none c.refusal) refl
     where
       on : Course
       on = turn c (event serial c.array c.state p)
 
-      go : course serial on (ps ++ qs) ≡ course serial (course serial on ps) qs → (t : Bool) → eqb c.refusal 0 ≡ t
+      go : course serial on (ps ++ qs) ≡ course serial (course serial on ps) qs → (t : Bool) → is_none c.refusal ≡ t
           → cond t (course serial on (ps ++ qs)) c ≡ course serial (cond t (course serial on ps) c) qs
       go later true e = later
       go later false e = sym (course_stays serial c qs e)
@@ -118,12 +120,12 @@ module _ (serial : List ℕ) where
       ap (λ (n : ℕ). set (x ∷ (front ++ levels)) n v) (suc_on (length front) i) ∙ ap (λ (l : List ℕ). x ∷ l) (set_behind front levels i v)
 
   turn_behind : (front : List ℕ) (c : Course) (a : Answer) → turn (behind front c) a ≡ behind front (turn c a)
-  turn_behind front c a = go (eqb a.refusal 0)
+  turn_behind front c a = go (is_none a.refusal)
     where
       go : (t : Bool) → cond t (took_one (behind front c) a) (stops_at (behind front c) a.refusal) ≡ behind front (cond t (took_one c a) (stops_at c a.refusal))
       go true = λ i.
           record {
-            refusal = 0;
+            refusal = None;
             count = add_assoc (length front) c.count 1 i;
             note = a.note;
             state = a.state;
@@ -136,7 +138,7 @@ module _ (serial : List ℕ) where
   unfolding course
   course_behind front c [] = refl
   course_behind front c (code ∷ codes) =
-      go (course_behind front (turn c (event serial c.array c.state code)) codes) (eqb c.refusal 0)
+      go (course_behind front (turn c (event serial c.array c.state code)) codes) (is_none c.refusal)
     where
       on : Course
       on = turn c (event serial c.array c.state code)
@@ -151,10 +153,10 @@ module _ (serial : List ℕ) where
       go h false = refl
 
   -- a course that was not stopped took every code
-  took_all : (c : Course) (codes : List ℕ) → eqb c.refusal 0 ≡ true → (course serial c codes).refusal ≡ 0 → more c codes ≡ length codes
+  took_all : (c : Course) (codes : List ℕ) → is_none c.refusal ≡ true → (course serial c codes).refusal ≡ None → more c codes ≡ length codes
   unfolding more course
   took_all c [] fine h = refl
-  took_all c (code ∷ codes) fine h = go (took_all (took_one c a) codes refl) (eqb a.refusal 0) refl (rw fine at h)
+  took_all c (code ∷ codes) fine h = go (took_all (took_one c a) codes refl) (is_none a.refusal) refl (rw fine at h)
     where
       a : Answer
       a = event serial c.array c.state code
@@ -165,15 +167,15 @@ module _ (serial : List ℕ) where
       end : Course
       end = stops_at c a.refusal
 
-      go : ((course serial on codes).refusal ≡ 0 → more on codes ≡ length codes) → (t : Bool) → eqb a.refusal 0 ≡ t
-          → (course serial (cond t on end) codes).refusal ≡ 0 → cond t (suc (more (cond t on end) codes)) 0 ≡ suc (length codes)
+      go : ((course serial on codes).refusal ≡ None → more on codes ≡ length codes) → (t : Bool) → is_none a.refusal ≡ t
+          → (course serial (cond t on end) codes).refusal ≡ None → cond t (suc (more (cond t on end) codes)) 0 ≡ suc (length codes)
       go later true e h = ap suc (later h)
-      go later false e h = absurd (eqb-false _ _ e (ap (λ (d : Course). d.refusal) (sym (course_stays serial end codes e)) ∙ h))
+      go later false e h = absurd (given_not_none _ e (ap (λ (d : Course). d.refusal) (sym (course_stays serial end codes e)) ∙ h))
 
   levels_length : (c : Course) (codes : List ℕ) → length (course serial c codes).levels ≡ length c.levels
   unfolding course
   levels_length c [] = refl
-  levels_length c (code ∷ codes) = go (levels_length (turn c a) codes) (eqb c.refusal 0) (eqb a.refusal 0)
+  levels_length c (code ∷ codes) = go (levels_length (turn c a) codes) (is_none c.refusal) (is_none a.refusal)
     where
       a : Answer
       a = event serial c.array c.state code
@@ -184,14 +186,14 @@ module _ (serial : List ℕ) where
 
       go : length (course serial (turn c a) codes).levels ≡ length (turn c a).levels → (t u : Bool)
           → length (cond t (course serial (turn c a) codes) c).levels ≡ length c.levels
-      go later true u = later ∙ turned (eqb a.refusal 0)
+      go later true u = later ∙ turned (is_none a.refusal)
       go later false u = refl
 
   -- the note that a course begins with is not told
   abbrev from : Note → State → List ℕ → List ℕ → Course
-  from note s xs levels = record { refusal = 0; count = 0; note = note; state = s; array = xs; levels = levels }
+  from note s xs levels = record { refusal = None; count = 0; note = note; state = s; array = xs; levels = levels }
 
-  note_untold : (note : Note) (s : State) (xs levels codes : List ℕ) → Same (course serial (from note s xs levels) codes) (course serial (set_all_out 0 s xs levels) codes)
+  note_untold : (note : Note) (s : State) (xs levels codes : List ℕ) → Same (course serial (from note s xs levels) codes) (course serial (set_all_out None s xs levels) codes)
   unfolding course
   note_untold note s xs levels [] = (refl, refl, refl, refl, refl)
   note_untold note s xs levels (code ∷ codes) = (refl, refl, refl, refl, refl)
@@ -208,15 +210,15 @@ module _ (serial : List ℕ) where
     whole : listed serial xs s (ps ++ qs) levels ≡ course serial one qs
     unfolding listed
     whole =
-        ap (λ (n : ℕ). course serial (set_all_out n s xs levels) (ps ++ qs)) checks_alike
+        ap (λ (given : Option Refusal). course serial (set_all_out given s xs levels) (ps ++ qs)) checks_alike
         ∙ course_append (set_all_out (list_refusal s (length xs) (length serial) (length ps) (length levels)) s xs levels) ps qs
 
     -- the first piece stopped: so does the whole, and there
-    pub first_stops : (one.refusal ≡ 0 → ⊥) → listed serial xs s (ps ++ qs) levels ≡ one
-    first_stops h = whole ∙ course_stays serial one qs (ne_eqb _ _ h)
+    pub first_stops : (one.refusal ≡ None → ⊥) → listed serial xs s (ps ++ qs) levels ≡ one
+    first_stops h = whole ∙ course_stays serial one qs (some_given _ h)
 
     -- else the second call, on what the first left, with the answers from the first's on
-    module _ (fine : one.refusal ≡ 0) where
+    module _ (fine : one.refusal ≡ None) where
       abbrev front : List ℕ
       front = take (length ps) one.levels
 
@@ -227,14 +229,14 @@ module _ (serial : List ℕ) where
       two = listed serial one.array one.state qs rest
 
       abbrev start : Course
-      start = set_all_out 0 s xs levels
+      start = set_all_out None s xs levels
 
-      passed : list_refusal s (length xs) (length serial) (length ps) (length levels) ≡ 0
-      passed = go (eqb (list_refusal s (length xs) (length serial) (length ps) (length levels)) 0) refl
+      passed : list_refusal s (length xs) (length serial) (length ps) (length levels) ≡ None
+      passed = go (list_refusal s (length xs) (length serial) (length ps) (length levels)) refl
         where
-          go : (t : Bool) → eqb (list_refusal s (length xs) (length serial) (length ps) (length levels)) 0 ≡ t → list_refusal s (length xs) (length serial) (length ps) (length levels) ≡ 0
-          go true e = eqb-true _ _ e
-          go false e = sym (ap (λ (c : Course). c.refusal) (listed_stops serial xs s ps levels (eqb-false _ _ e))) ∙ fine
+          go : (given : Option Refusal) → list_refusal s (length xs) (length serial) (length ps) (length levels) ≡ given → given ≡ None
+          go None e = refl
+          go (Some why) e = sym (ap (λ (c : Course). c.refusal) (listed_stops serial xs s ps levels e)) ∙ fine
 
       is : one ≡ course serial start ps
       is = listed_runs serial xs s ps levels passed
@@ -265,7 +267,7 @@ module _ (serial : List ℕ) where
           }
 
       -- the second call's checks pass: the first kept the part, the length and soundness
-      lent : lend_refusal one.state (length one.array) (length serial) ≡ 0
+      lent : lend_refusal one.state (length one.array) (length serial) ≡ None
       lent =
           ap (λ (c : Chip). lend_refusal c.state (length c.array) (length serial)) (listed_run xs s ps levels)
           ∙ lend_none made.state (length made.array) (length serial) (
@@ -286,7 +288,7 @@ module _ (serial : List ℕ) where
           was : Lends s (length xs) (length serial)
           was = lend_passed s (length xs) (length serial) (list_passed s (length xs) (length serial) (length ps) (length levels) passed).0
 
-      two_is : two ≡ course serial (set_all_out 0 one.state one.array rest) qs
+      two_is : two ≡ course serial (set_all_out None one.state one.array rest) qs
       two_is = listed_runs serial one.array one.state qs rest (list_none one.state (length one.array) (length serial) (length qs) (length rest) lent rest_length)
 
       whole_behind : listed serial xs s (ps ++ qs) levels ≡ behind front (course serial (from one.note one.state one.array rest) qs)

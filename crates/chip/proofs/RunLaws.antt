@@ -1,5 +1,5 @@
 -- What an event keeps, and so a run of them: the part, the array's length, the serial number, soundness. Assumes nothing.
-use Rattle.std.specs.Prelude.{ℕ, ◌/◌, ◌%◌, ◌≡◌, Bool, ◌&&◌, List, [], ◌∷◌, eqb, length}
+use Rattle.std.specs.Prelude.{ℕ, ◌/◌, ◌%◌, ◌≡◌, Bool, ◌&&◌, List, [], ◌∷◌, eqb, length, Option, Some, None, Result, Ok, Err}
 use Rattle.std.proofs.Math.Path.{refl}
 use Rattle.std.proofs.Common.{◌∙◌}
 use Rattle.std.proofs.Math.Bool.{true, false}
@@ -12,11 +12,11 @@ use Rattle.pins.specs.Levels.{cs_level, hold_high}
 use Rattle.pins.specs.Sound.{sound}
 use Rattle.pins.specs.declared.state.State.{State}
 use Rattle.pins.specs.declared.state.Moved.{Moved}
-use Rattle.step.specs.Step.{cs_to, sck_to, hold_to, cs_stayed, vdd_to, live, step}
-use Rattle.chip.specs.Event.{checks, event}
+use Rattle.refusals.specs.declared.refusal.Refusal.{Refusal}
+use Rattle.step.specs.Step.{cs_to, sck_to, hold_to, cs_stayed, vdd_to, live, step, state_after}
+use Rattle.chip.specs.Event.{answer_of, unless_refused, checks, event}
 use Rattle.chip.specs.Run.{Chip, next, run}
 use Rattle.chip.proofs.SoundLaws.{event_sound}
-use Rattle.step.specs.declared.step.Stepped.{Stepped}
 use Rattle.step.specs.StepLaws.{written_length}
 
 -- every edge keeps the part
@@ -27,8 +27,8 @@ module _ (s : State) where
   abbrev Moves : Moved → Type 0
   Moves m = Same m.state
 
-  abbrev Steps : Stepped → Type 0
-  Steps t = Same t.state
+  abbrev Steps : Result Moved Refusal → Type 0
+  Steps t = Same (state_after s t)
 
   cs_part : (f : Figure) (level : Bool) → Moves (cs_to f s level)
   unfolding cs_fall cs_rise
@@ -63,9 +63,13 @@ module _ (s : State) where
   pub event_part : (serial xs : List ℕ) (code : ℕ) → (event serial xs s code).state.part ≡ s.part
   unfolding event step
   event_part serial xs code =
-      choose Steps (eqb (checks s (length xs) (length serial) code) 0)
+      go (checks s (length xs) (length serial) code) (step (figure_of s.part) serial xs s code)
       (choose Steps s.power (live_part (figure_of s.part) serial xs (code / 2) (eqb (code % 2) 1)) (choose Moves (eqb code 11) refl refl))
-      refl
+    where
+      go : (given : Option Refusal) (t : Result Moved Refusal) → Steps t → Same (answer_of s (unless_refused given t)).state
+      go None (Ok m) kept = kept
+      go None (Err why) kept = refl
+      go (Some why) t kept = refl
 
 module _ (c : Chip) (code : ℕ) where
   pub next_part : (next c code).state.part ≡ c.state.part

@@ -1,7 +1,8 @@
 -- Refused by the first checks: nothing is touched. Else the loop may go, and its course is the list's, field by field.
-use Rattle.std.proofs.Common.{◌≡◌, ap, arith}
+use Rattle.std.proofs.Common.{◌≡◌, ap, sym, ◌∙◌}
+use Rattle.supply.specs.CheckedLaws.{checked_none, checked_some}
 use Rattle.chip.specs.List.{Course}
-use Rattle.chip.proofs.ListLaws.{call_passed, call_runs, call_stops}
+use Rattle.chip.proofs.ListLaws.{list_passed, listed_runs, listed_stops}
 use Rattle.chip.proofs.ListRuns.{Same}
 use Rattle.chip.proofs.list.events.Goals as goal
 
@@ -16,17 +17,24 @@ fields e = (
 
 pub go-ran-requires-clause-nothing_refused : goal.go-ran-requires-clause-nothing_refused
 go-ran-requires-clause-nothing_refused c =
-    let none : c.list_refusal-refusal.result ≡ 0 = omega arith in
-    (call_passed _ _ _ c.args.codes.now c.args.levels.now c.list_refusal-refusal.ensures none).0
+    (list_passed _ _ _ _ _ (checked_none _ (sym c.check_list.ensures ∙ c.in-Ok.is))).0
 
 pub go-ran-requires-clause-codes_in_bounds : goal.go-ran-requires-clause-codes_in_bounds
 go-ran-requires-clause-codes_in_bounds c =
-    let none : c.list_refusal-refusal.result ≡ 0 = omega arith in
-    (call_passed c.args.serial.now c.args.array.now c.args.state _ _ c.list_refusal-refusal.ensures none).1
+    (list_passed _ _ _ _ _ (checked_none _ (sym c.check_list.ensures ∙ c.in-Ok.is))).1
 
-pub returns-then-refusal-eq0 : goal.returns-then-refusal-eq0
-returns-then-refusal-eq0 c =
-    fields (call_runs _ _ _ _ _ c.list_refusal-refusal.ensures c.if-refusal-eq0.true c.go-ran.ensures)
+pub returns-in-Ok : goal.returns-in-Ok
+returns-in-Ok c =
+    let args = c.args in
+    fields
+    (c.go-ran.ensures
+    ∙ sym (listed_runs args.serial.now args.array.now args.state args.codes.now args.levels.now
+    (checked_none _ (sym c.check_list.ensures ∙ c.in-Ok.is))))
 
-pub returns-else-refusal-eq0 : goal.returns-else-refusal-eq0
-returns-else-refusal-eq0 c = fields (call_stops _ _ _ _ _ c.list_refusal-refusal.ensures c.if-refusal-eq0.false)
+pub returns-in-Err : goal.returns-in-Err
+returns-in-Err c =
+    let args = c.args in
+    fields
+    (sym
+    (listed_stops args.serial.now args.array.now args.state args.codes.now args.levels.now
+    (checked_some _ _ (sym c.check_list.ensures ∙ c.in-Err.is))))

@@ -6,12 +6,11 @@ use Rattle.chip.proofs.run.attempt.Goals as goal
 
 pub returns-then-code-ge12 : goal.returns-then-code-ge12
 returns-then-code-ge12 c =
-    let a = c in
-    c.refuse.ensures
-    ∙ sym (tried_unknown a.args.f a.args.serial.now a.args.array.now a.args.state a.args.code a.requires.nothing_refused (le-leb _ _ c.if-code-ge12.true))
+    let a = c.args in
+    sym (tried_unknown a.f a.serial.now a.array.now a.state a.code c.requires.nothing_refused (le-leb _ _ c.if-code-ge12.true))
 
 pub returns-else-code-ge12 : goal.returns-else-code-ge12
 returns-else-code-ge12 c =
-    let a = c in
+    let a = c.args in
     c.step.ensures
-    ∙ sym (tried_known a.args.f a.args.serial.now a.args.array.now a.args.state a.args.code a.requires.nothing_refused (lt-leb _ _ c.if-code-ge12.false))
+    ∙ sym (tried_known a.f a.serial.now a.array.now a.state a.code c.requires.nothing_refused (lt-leb _ _ c.if-code-ge12.false))

@@ -1,7 +1,7 @@
 -- The tests come in the order of the refusals; the row is the part's.
 use Rattle.chip.proofs.EventLaws.{lend_unsound, lend_misfits, lend_unnumbered, lend_fine}
 use Rattle.std.proofs.Common.{ap, not}
-use Rattle.chip.proofs.run.lend_refusal.Goals as goal
+use Rattle.chip.proofs.run.check_lent.Goals as goal
 
 pub returns-then-not-sound_by : goal.returns-then-not-sound_by
 returns-then-not-sound_by c = lend_unsound _ _ _ _ c.figure_of-f.ensures c.sound_by.ensures (ap not c.if-not-sound_by.true)
