@@ -1,7 +1,6 @@
 // The step of one event: what it does where the checks 4, 2, 15 and 5 let it through.
 ghost use Rattle.std.specs.Prelude.{true, false, [], ◌≡◌, ◌/◌, ◌%◌, eqb};
 ghost use Rattle.step.specs.Step.{cs_to, sck_to, cs_stayed, hold_up, hold_to, vdd_to, live, dark, step, written};
-ghost use Rattle.pins.specs.Edges.{si_to, wp_to};
 
 use parts::figures::Figure;
 use pins::hold::hold_high;
@@ -82,27 +81,6 @@ fn hold_to(state: State, level: bool) -> Result<Moved, Refusal>
     }
 }
 
-// SI and /WP go to the level that they are set to, had before or not.
-fn si_to(state: State, level: bool) -> Moved
-    ensures { result ≡ si_to state level }
-{
-    if level {
-        state.si_rise()
-    } else {
-        state.si_fall()
-    }
-}
-
-fn wp_to(state: State, level: bool) -> Moved
-    ensures { result ≡ wp_to state level }
-{
-    if level {
-        state.wp_rise()
-    } else {
-        state.wp_fall()
-    }
-}
-
 fn vdd_to(state: State, level: bool) -> Moved
     ensures { result ≡ vdd_to state level }
 {
@@ -122,9 +100,9 @@ fn live(f: Figure, state: State, array: &[u8], serial: &[u8], code: u8) -> Resul
         0 | 1 => Ok(cs_to(state, f, code == 1)),
         2 => Ok(sck_low(state, f, array, serial)),
         3 => Ok(sck_high(state, f)),
-        4 | 5 => Ok(si_to(state, code == 5)),
+        4 | 5 => Ok(state.si_to(code == 5)),
         6 | 7 => hold_to(state, code == 7),
-        8 | 9 => Ok(wp_to(state, code == 9)),
+        8 | 9 => Ok(state.wp_to(code == 9)),
         _ => Ok(vdd_to(state, code % 2 == 1)),
     }
 }
