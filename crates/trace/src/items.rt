@@ -27,11 +27,7 @@ fn data_event(byte: u64, k: u64) -> u64
 pub fn pulses_of(item: u64) -> u64
     ensures { result ≡ item - last_byte }
 {
-    if LAST_BYTE < item {
-        item - LAST_BYTE
-    } else {
-        0
-    }
+    item.saturating_sub(LAST_BYTE)
 }
 
 // How many events an item is that is an event or a data byte.

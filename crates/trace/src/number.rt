@@ -1,6 +1,5 @@
 // The core on plain numbers: a number is read at a place of a byte slice, and written at one.
 ghost use Rattle.std.specs.Prelude.{◌≡◌, ◌+◌, ◌≤◌, length};
-ghost use Rattle.std.proofs.lemmas.List.Edits.{sets};
 ghost use Rattle.trace.specs.Form.{form, scanned};
 ghost use Rattle.trace.specs.Promises.{ReadPromise, WritePromise};
 
@@ -93,42 +92,34 @@ pub fn write_at(s: &mut [u8], at: usize, value: u64) -> Result<usize, Refused>
             at,
         });
     }
-    let room = s.len() - at;
-    if room < width(value) {
+    let width = width(value);
+    if s.len() - at < width {
         return Err(Refused {
             refusal: Refusal::NoRoom,
             at,
         });
     }
-    Ok(put(s, at, value))
+    let next = at + width;
+    put(&mut s[at..next], value);
+    Ok(next)
 }
 
-// The number of bytes that the form of `value` takes.
+// The number of bytes that the form of `value` takes: one for each seven bits begun.
 fn width(value: u64) -> usize
     ensures { result ≡ length (form value) }
 {
-    let mut n = 1;
-    let mut left = value;
-    while 0x80 <= left {
-        n += 1;
-        left >>= 7;
-    }
-    n
+    value.max(1).ilog2() as usize / 7 + 1
 }
 
-// Stores the form of `value` from `at` on, and answers the place after it.
-fn put(s: &mut [u8], at: usize, value: u64) -> usize
-    requires { at + length (form value) ≤ length s.old }
-    ensures value { result ≡ at + length (form value) }
-    ensures s_after { s.new ≡ sets s.old at (form value) }
+// Stores the form of `value` in the bytes that it takes: the low group first, and the top bit set where more follow.
+fn put(own: &mut [u8], value: u64)
+    requires { length own.old ≡ length (form value) }
+    ensures { own.new ≡ form value }
 {
-    let mut next = at;
     let mut rest = value;
-    while 0x80 <= rest {
-        s[next] = (rest & 0x7F) as u8 | 0x80;
-        next += 1;
+    for byte in own.iter_mut() {
+        let group = (rest & 0x7F) as u8;
         rest >>= 7;
+        *byte = if rest == 0 { group } else { group | 0x80 };
     }
-    s[next] = rest as u8;
-    next + 1
 }

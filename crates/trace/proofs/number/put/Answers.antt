@@ -1,30 +1,15 @@
--- By the invariant the form of what is left ends within the slice. A turn stores the low group with the top bit set
--- (`form_more`), and the last store is of the one group that is left (`form_one`).
-use Rattle.std.proofs.Common.{sym, ap, ◌∙◌, length, arith, add-one}
-use Rattle.std.proofs.Math.ListN.{length-set}
-use Rattle.std.proofs.lemmas.List.Edits.{sets}
-use Rattle.trace.specs.SpellingLaws.{form_one, form_more, form_length}
-use Rattle.trace.proofs.Packing.{goes_on_lem}
+-- A byte takes the low group of what is left: as it is where that is the last, and else with the top bit set.
+use Rattle.std.proofs.Common.{◌∙◌, arith}
+use Rattle.trace.specs.Form.{form}
+use Rattle.trace.proofs.Storing.{last_stored, more_stored}
+use Rattle.trace.proofs.number.put.Goals.{then-rest-eq0, else-rest-eq0}
 use Rattle.trace.proofs.number.put.Goals as goal
 
-pub bounds-s-next : goal.bounds-s-next
-bounds-s-next c = omega (arith, form_length c.loop-rest.rest c.loop-rest-test.true)
-
-pub loop-rest-preserved : goal.loop-rest-preserved
-loop-rest-preserved c =
-    let l = c.loop-rest in (
-      rw (goes_on_lem l.rest, add-one) (sym (ap (sets l.s l.next) (form_more l.rest c.loop-rest-test.true)) ∙ l.invariant.0),
-      omega (arith, form_length l.rest c.loop-rest-test.true),
-      simp length-set l.invariant.2,
-    )
-
-pub bounds-s-next-2 : goal.bounds-s-next-2
-bounds-s-next-2 c = omega (arith, ap length (form_one c.loop-rest.rest c.loop-rest-test.false))
-
-pub returns-clause-value : goal.returns-clause-value
-returns-clause-value c = omega (arith, ap length (form_one c.loop-rest.rest c.loop-rest-test.false))
-
-pub returns-clause-s_after : goal.returns-clause-s_after
-returns-clause-s_after c =
-    let l = c.loop-rest in
-    sym (ap (sets l.s l.next) (form_one l.rest c.loop-rest-test.false)) ∙ l.invariant.0
+pub loop-byte-preserved : goal.loop-byte-preserved
+loop-byte-preserved c =
+    let l = c.loop-byte in
+    let size = l.auto.own ∙ c.requires in
+    elim c.if-rest-eq0.branch [
+      | then-rest-eq0 w ↦ last_stored l.own (form c.args.value) l.byte-index l.rest (omega arith) size l.invariant _ w.byte-is w.if-rest-eq0.true
+      | else-rest-eq0 w ↦ more_stored l.own (form c.args.value) l.byte-index l.rest (omega arith) size l.invariant _ w.byte-is w.if-rest-eq0.false
+    ]

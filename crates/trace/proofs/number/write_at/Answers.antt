@@ -2,7 +2,7 @@
 -- at a refusal, and else with the form that `put` stored in its place. The facts are found by what they say, so that an exchange of
 -- the tests falls by what it answers.
 use Rattle.std.proofs.Common.{◌≡◌, ◌+◌, ◌-◌, ◌<◌, ◌≤◌, length, ◌∙◌, arith, le-ltb, lt-ltb}
-use Rattle.std.proofs.lemmas.List.Edits.{sets-eq}
+use Rattle.trace.proofs.Storing.{form_between}
 use Rattle.trace.specs.Answers.{placed}
 use Rattle.trace.specs.Figures.{largest}
 use Rattle.trace.specs.Form.{form}
@@ -23,22 +23,22 @@ returns-then-at-s c =
     let beyond : length c.args.s.now < c.args.at = omega arith in
     at_refusal _ _ _ 9 (cc) (simp (le-ltb _ _ small, lt-ltb _ _ beyond))
 
-pub returns-then-room-width : goal.returns-then-room-width
+pub returns-then-s-at : goal.returns-then-s-at
 unfolding writing
-returns-then-room-width c =
+returns-then-s-at c =
     let small : c.args.value ≤ largest = omega arith in
     let within : c.args.at ≤ length c.args.s.now = omega arith in
-    let short : length c.args.s.now - c.args.at < length (form c.args.value) = omega (arith, c.width.ensures) in
+    let short : length c.args.s.now - c.args.at < length (form c.args.value) = omega (arith, c.width-width.ensures) in
     at_refusal _ _ _ 10 (cc) (simp (le-ltb _ _ small, le-ltb _ _ within, lt-ltb _ _ short))
 
 pub returns : goal.returns
 unfolding writing
 returns c =
     let a = c.args in
-    let put = c.put in
+    let bs = c.put.ensures in
+    let size = c.width-width.ensures in
     let small : a.value ≤ largest = omega arith in
     let within : a.at ≤ length a.s.now = omega arith in
-    let room : a.at + length (form a.value) ≤ length a.s.now = omega arith in
     let fit : length (form a.value) ≤ length a.s.now - a.at = omega arith in
-    let told : placed put.result ≡ writing a.s.now a.at a.value = simp (put.ensures.value, le-ltb _ _ small, le-ltb _ _ within, le-ltb _ _ fit) in
-    (told, put.ensures.s_after ∙ sets-eq (form a.value) a.s.now a.at room ∙ at_placing a.s.now a.at a.value put.result told)
+    let told : placed (a.at + c.width-width.result) ≡ writing a.s.now a.at a.value = simp (size, le-ltb _ _ small, le-ltb _ _ within, le-ltb _ _ fit) in
+    (told, rw (bs) (form_between a.s.now (form a.value) a.at _ size ∙ at_placing a.s.now a.at a.value _ told))
