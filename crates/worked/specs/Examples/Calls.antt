@@ -14,6 +14,7 @@ use Rattle.pins.specs.declared.hold.Hold.TheVariants.{LowCsLow, LowCsHigh}
 use Rattle.pins.specs.declared.state.State.{State}
 use Rattle.select.specs.Notes.{level_number, note_numbers}
 use Rattle.chip.specs.Event.{event}
+use Rattle.refusals.specs.Refusals.{number_or_0}
 use Rattle.chip.specs.Examples.Run.{same, state_numbers}
 use Rattle.supply.specs.Power.{fill_refusal, fresh, filled, power_up}
 use Rattle.chip.specs.declared.event.Answer.{Answer}
@@ -22,7 +23,7 @@ use Rattle.supply.specs.declared.power.Powered.{Powered}
 -- "Any other refusal returns its number with the state given; SO reads released, the note is nothing."
 abbrev pub stays : State → ℕ → Answer → Bool
 stays s number a =
-    eqb a.refusal number && same (state_numbers a.state) (state_numbers s)
+    eqb (number_or_0 a.refusal) number && same (state_numbers a.state) (state_numbers s)
     && eqb (level_number a.so) 2 && eqb (note_numbers a.note).kind 0
 
 -- an event over an array and with a serial number of so many bytes: refused with this number; 0: accepted, and nothing comes of it
@@ -130,7 +131,7 @@ abbrev starts : ℕ → ℕ → ℕ → Powering
 starts part kept len = record { part = part; kept = kept; len = len; number = 0; state = at_rest part kept true }
 
 abbrev pub powers_up : Powering → Powered → Bool
-powers_up c p = eqb p.refusal c.number && same (state_numbers p.state) (state_numbers c.state)
+powers_up c p = eqb (number_or_0 p.refusal) c.number && same (state_numbers p.state) (state_numbers c.state)
 
 abbrev pub all_powered : List Powering → Bool
 all_powered [] = true
@@ -163,7 +164,7 @@ fills part len byte left = record { part = part; len = len; byte = byte; number 
 abbrev pub all_filled : List Filling → Bool
 all_filled [] = true
 all_filled (c ∷ cs) =
-    eqb (fill_refusal c.part c.len) c.number
+    eqb (number_or_0 (fill_refusal c.part c.len)) c.number
     && same (filled c.part c.byte (replicate c.len 0xEE)) (replicate c.len c.left)
     && all_filled cs
 

@@ -8,6 +8,7 @@ use Rattle.stages.specs.declared.stage.Stage.TheVariants.{Code, ArrayOut, Serial
 use Rattle.pins.specs.Edges.{with_sck, with_si, with_stage}
 use Rattle.pins.specs.Levels.{at_rest}
 use Rattle.pins.specs.declared.state.State.{State}
+use Rattle.refusals.specs.Refusals.{number_or_0}
 use Rattle.chip.specs.List.{Course, listed}
 use Rattle.chip.specs.Examples.Run.{same, state_numbers}
 
@@ -27,7 +28,7 @@ pub record Listing : Type 0 where
 
 abbrev leaves : Listing → Course → Bool
 leaves l c =
-    eqb c.refusal l.refusal && eqb c.count l.count && same (state_numbers c.state) (state_numbers l.made)
+    eqb (number_or_0 c.refusal) l.refusal && eqb c.count l.count && same (state_numbers c.state) (state_numbers l.made)
     && same c.levels l.told && eqb (get_or c.array 0 0) l.first
 
 abbrev pub all_listed : List Listing → Bool
