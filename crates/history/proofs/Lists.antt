@@ -1,6 +1,6 @@
 -- Demand 3 over lists: whatever lists a bench sends, what a power cut leaves is the history's over the events that were
 -- accepted. Assumes nothing.
-use Rattle.std.specs.Prelude.{ℕ, true, List, [], ◌∷◌, ◌++◌, ◌≡◌, refl, length, take}
+use Rattle.std.specs.Prelude.{ℕ, true, List, [], ◌∷◌, ◌++◌, ◌≡◌, refl, length, take, None}
 use Rattle.std.proofs.Common.{sym, ap, ◌∙◌}
 use Rattle.std.proofs.Math.Seq.{take-length}
 use Rattle.parts.specs.Figures.{fits_serial}
@@ -22,7 +22,7 @@ sent_runs c (l ∷ ls) =
     ∙ sym (run_append c (take (sending c l).count l.codes) (accepted_of (course_chip c.serial (sending c l)) ls))
 
 module _
-    (part kept : ℕ) (array serial : List ℕ) (ls : List Sending) (fine : (power_up part kept array).refusal ≡ 0)
+    (part kept : ℕ) (array serial : List ℕ) (ls : List Sending) (fine : (power_up part kept array).refusal ≡ None)
     (numbered : fits_serial part (length serial) ≡ true)
   where
     abbrev told : List ℕ

@@ -1,7 +1,7 @@
 -- What a power cut leaves (demand 3): the theorem. What it says is in Wire, Transfers, Bytes and History, which read the
 -- list of events alone, and in the chip's Run, which runs its own definition over it. How it is proved is in Laws.
 -- Assumes nothing.
-use Rattle.std.specs.Prelude.{ℕ, true, false, ◌≡◌, length, take}
+use Rattle.std.specs.Prelude.{ℕ, true, false, ◌≡◌, length, take, None}
 use mathlib.Core.List.{List, [], ◌∷◌, ◌++◌}
 use Rattle.std.proofs.Common.{sym, ◌∙◌}
 use Rattle.std.proofs.Math.Path.{ap}
@@ -21,7 +21,7 @@ use Rattle.history.proofs.Laws.Place.{outside}
 use Rattle.history.proofs.Laws.Step.{unlatched}
 
 module _
-    (part kept : ℕ) (array serial codes : List ℕ) (accepted : (power_up part kept array).refusal ≡ 0)
+    (part kept : ℕ) (array serial codes : List ℕ) (accepted : (power_up part kept array).refusal ≡ None)
     (numbered : fits_serial part (length serial) ≡ true)
   where
     starts : from_power_up part kept array serial ≡ powered_up part kept array serial

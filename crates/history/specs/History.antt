@@ -1,13 +1,12 @@
 -- The history (demand 3): "what stood at power-up, overlaid in order of arrival by each whole memory byte that came with
 -- the latch, the protect line and the block rule in its favour, and by the first whole status byte of each transfer, if
 -- it came with the latch and the protect line in its favour. Nothing else." Assumes nothing.
-use Rattle.std.specs.Prelude.{ℕ, ◌+◌, ◌%◌, Bool, true, false, cond, ◌&&◌, List, [], ◌∷◌, set}
+use Rattle.std.specs.Prelude.{ℕ, ◌+◌, ◌%◌, Bool, true, false, cond, ◌&&◌, List, [], ◌∷◌, set, Result, Ok, Err}
 use Rattle.std.specs.Int.Bits.{bit_and}
 use Rattle.parts.specs.Figures.{figure_of}
 use Rattle.parts.specs.Guards.{may_store, may_keep}
 use Rattle.parts.specs.declared.figures.Figure.{Figure}
-use Rattle.parts.specs.declared.guards.Verdict.{Verdict}
-use Rattle.parts.specs.declared.guards.Verdict.TheVariants.{Allowed, HeldBack}
+use Rattle.parts.specs.declared.guards.Reason.{Reason}
 use Rattle.history.specs.Wire.{rest, acts}
 use Rattle.history.specs.Transfers.{Transfer, rises, Span, transfer, cut, spans}
 use Rattle.history.specs.Bytes.{Byte, whole_bytes, Reading, latches, stores, shows, keeps, sleeps, idles, read_transfer}
@@ -22,9 +21,9 @@ abbrev pub with_latch : World → Bool → World
 with_latch w on = record { latch = on; kept = w.kept; array = w.array }
 
 -- "each whole memory byte that came with the latch, the protect line and the block rule in its favour"
-unfoldable pub store_if : World → ℕ → Byte → Verdict → World
-store_if w at b Allowed = record { latch = w.latch; kept = w.kept; array = set w.array at b.value }
-store_if w at b (HeldBack reason) = w
+unfoldable pub store_if : World → ℕ → Byte → Result (Unit {0}) Reason → World
+store_if w at b (Ok allowed) = record { latch = w.latch; kept = w.kept; array = set w.array at b.value }
+store_if w at b (Err reason) = w
 
 abbrev pub overlaid : Figure → World → ℕ → Byte → World
 overlaid f w at b = store_if w at b (may_store f w.latch w.kept b.wp at)
@@ -36,9 +35,9 @@ overlay f start k w (b ∷ bs) = overlay f start (k + 1) (overlaid f w ((start +
 
 -- "and by the first whole status byte of each transfer, if it came with the latch and the protect line in its favour",
 -- "under the part's mask". "Further bytes do nothing (H)."
-unfoldable pub keep_if : Figure → World → Byte → Verdict → World
-keep_if f w b Allowed = record { latch = w.latch; kept = bit_and b.value f.kept; array = w.array }
-keep_if f w b (HeldBack reason) = w
+unfoldable pub keep_if : Figure → World → Byte → Result (Unit {0}) Reason → World
+keep_if f w b (Ok allowed) = record { latch = w.latch; kept = bit_and b.value f.kept; array = w.array }
+keep_if f w b (Err reason) = w
 
 unfoldable pub keep_first : Figure → World → List Byte → World
 keep_first f w [] = w

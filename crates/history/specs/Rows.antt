@@ -1,11 +1,10 @@
 -- The rows that a list of events wears, in order (document 02, Wish 9), read from the list alone. Its count of row cycles is their
 -- number. Assumes nothing.
-use Rattle.std.specs.Prelude.{ℕ, zero, suc, ◌+◌, ◌*◌, ◌-◌, ◌/◌, ◌%◌, true, false, cond, List, [], ◌∷◌, ◌++◌, eqb}
+use Rattle.std.specs.Prelude.{ℕ, zero, suc, ◌+◌, ◌*◌, ◌-◌, ◌/◌, ◌%◌, true, false, cond, List, [], ◌∷◌, ◌++◌, eqb, Result, Ok, Err}
 use Rattle.parts.specs.Figures.{figure_of}
 use Rattle.parts.specs.Guards.{may_store}
 use Rattle.parts.specs.declared.figures.Figure.{Figure}
-use Rattle.parts.specs.declared.guards.Verdict.{Verdict}
-use Rattle.parts.specs.declared.guards.Verdict.TheVariants.{Allowed, HeldBack}
+use Rattle.parts.specs.declared.guards.Reason.{Reason}
 use Rattle.history.specs.Wire.{rest, acts}
 use Rattle.history.specs.Transfers.{Edge, up, down, Span, transfer, cut, spans}
 use Rattle.history.specs.Bytes.{Byte, Reading, latches, stores, shows, keeps, sleeps, idles}
@@ -28,9 +27,9 @@ places size at (suc n) = at % size ∷ places size (at + 1) n
 
 -- "or a stored byte": the addresses of a WRITE's data bytes that came with the latch, the protect line and the block rule in their
 -- favour. `k` and `w` as for `overlay`.
-abbrev pub stored_if : ℕ → Verdict → List ℕ
-stored_if at Allowed = at ∷ []
-stored_if at (HeldBack reason) = []
+abbrev pub stored_if : ℕ → Result (Unit {0}) Reason → List ℕ
+stored_if at (Ok allowed) = at ∷ []
+stored_if at (Err reason) = []
 
 unfoldable pub stored_at : Figure → ℕ → ℕ → World → List Byte → List ℕ
 stored_at f start k w [] = []

@@ -1,6 +1,8 @@
 -- The wire: the levels of the lines as the events put them, and what the select sees of each event. Read from the
 -- list of events alone. Assumes nothing.
-use Rattle.std.specs.Prelude.{ℕ, ◌/◌, ◌%◌, Bool, true, false, cond, not, ◌&&◌, ◌||◌, List, [], ◌∷◌, eqb, leb}
+use Rattle.std.specs.Prelude.{ℕ, ◌/◌, ◌%◌, Bool, true, false, cond, not, ◌&&◌, ◌||◌, List, [], ◌∷◌, eqb, leb, is_some, Option, Some, None}
+use Rattle.refusals.specs.declared.refusal.Refusal.{Refusal}
+use Rattle.refusals.specs.declared.refusal.Refusal.TheVariants.{NoEvent, HoldWithSck, HoldWithCs}
 
 -- the levels of the lines, and of /CS as it was last seen: low exactly where a select is open
 pub record Wire : Type 0 where
@@ -45,16 +47,16 @@ hold_rises l code = eqb code 7 && not l.hold
 abbrev pub cs_moved : Wire → Bool
 cs_moved l = cond l.seen (not l.cs) l.cs
 
--- 5 "event code 12 or more", 6 "power on, /HOLD would move with SCK high", 7 "power on, /HOLD would rise with /CS moved"; else 0
-unfoldable pub refusal : Wire → ℕ → ℕ
+-- 5 "event code 12 or more", 6 "power on, /HOLD would move with SCK high", 7 "power on, /HOLD would rise with /CS moved"; else none
+unfoldable pub refusal : Wire → ℕ → Option Refusal
 refusal l code =
-    cond (leb 12 code) 5
-    (cond (l.power && (hold_falls l code || hold_rises l code) && l.sck) 6
-    (cond (l.power && hold_rises l code && cs_moved l) 7
-    0))
+    cond (leb 12 code) (Some NoEvent)
+    (cond (l.power && (hold_falls l code || hold_rises l code) && l.sck) (Some HoldWithSck)
+    (cond (l.power && hold_rises l code && cs_moved l) (Some HoldWithCs)
+    None))
 
 abbrev pub is_refused : Wire → ℕ → Bool
-is_refused l code = not (eqb (refusal l code) 0)
+is_refused l code = is_some (refusal l code)
 
 -- "refused events count as never sent". "With power off, each event but 11 is accepted and has no effect." Event 10 with
 -- power on gives the off state, "all else is as at power-up"; "Event 11 then gives the power-up state".

@@ -1,6 +1,6 @@
 -- A run, event by event: the chip stays sound, its array keeps its length, so the checks before a step never refuse, and it
 -- agrees with the history at every moment. Assumes nothing.
-use Rattle.std.specs.Prelude.{ℕ, suc, ◌≤◌, Bool, cond, not, List, [], ◌∷◌, ◌++◌, ◌≡◌, length, eqb}
+use Rattle.std.specs.Prelude.{ℕ, suc, ◌≤◌, Bool, cond, not, List, [], ◌∷◌, ◌++◌, ◌≡◌, length, eqb, Err}
 use Rattle.std.proofs.Common.{arith, sym, ◌∙◌}
 use Rattle.std.proofs.Math.Bool.{true, false}
 use Rattle.std.proofs.Math.Path.{refl, ap}
@@ -9,7 +9,7 @@ use borrow.Author.Tests.{leb-true, eq-eqb, ne_eqb}
 use Rattle.parts.specs.FigureLaws.{Fair, fair}
 use Rattle.parts.specs.Figures.{figure_of, is_part, in_mask, fits_serial}
 use Rattle.pins.specs.Levels.{at_rest}
-use Rattle.step.specs.Step as chip
+use Rattle.refusals.specs.declared.refusal.Refusal.TheVariants.{NoEvent}
 use Rattle.chip.proofs.EventLaws.{event_steps, checks_none}
 use Rattle.step.specs.Step.{step, live, written}
 use Rattle.chip.specs.Event.{answer_of, checks, event}
@@ -34,10 +34,10 @@ module _
     (own xs : List ℕ) (s : State) (good : sound s ≡ true) (fits : length xs ≡ (figure_of s.part).size)
     (takes : fits_serial s.part (length own) ≡ true) (code : ℕ)
   where
-    event_step : leb 12 code ≡ false → event own xs s code ≡ answer_of (step (figure_of s.part) own xs s code)
-    event_step e = event_steps own xs s code (eq-eqb _ _ (checks_none own xs s code good (eq-eqb _ _ fits) takes e))
+    event_step : leb 12 code ≡ false → event own xs s code ≡ answer_of s (step (figure_of s.part) own xs s code)
+    event_step e = event_steps own xs s code (checks_none own xs s code good (eq-eqb _ _ fits) takes e)
 
-    event_unknown : leb 12 code ≡ true → event own xs s code ≡ answer_of (chip.refused 5 s)
+    event_unknown : leb 12 code ≡ true → event own xs s code ≡ answer_of s (Err NoEvent)
     unfolding event checks
     event_unknown e = rw (good, eq-eqb _ _ fits, takes, e)
 
@@ -86,14 +86,14 @@ module _ (part : ℕ) (fair : Fair (figure_of part)) {l : Wire} {p : Place} {w :
   numbered : fits_serial c.state.part (length c.serial) ≡ true
   numbered = rw (own_part m.agrees) m.takes
 
-  event_own : (code : ℕ) → leb 12 code ≡ false → event c.serial c.array c.state code ≡ answer_of (step (figure_of part) c.serial c.array c.state code)
+  event_own : (code : ℕ) → leb 12 code ≡ false → event c.serial c.array c.state code ≡ answer_of c.state (step (figure_of part) c.serial c.array c.state code)
   event_own code e =
       event_step c.serial c.array c.state m.good sized numbered code e
-      ∙ ap (λ (k : ℕ). answer_of (step (figure_of k) c.serial c.array c.state code)) (own_part m.agrees)
+      ∙ ap (λ (k : ℕ). answer_of c.state (step (figure_of k) c.serial c.array c.state code)) (own_part m.agrees)
 
   pub next_steps :
       (code : ℕ) → leb 12 code ≡ false
-      → next c code ≡ answered c (answer_of (step (figure_of part) c.serial c.array c.state code))
+      → next c code ≡ answered c (answer_of c.state (step (figure_of part) c.serial c.array c.state code))
   unfolding next
   next_steps code e = ap (answered c) (event_own code e)
 
@@ -186,7 +186,7 @@ run_append c (code ∷ codes) more = run_append (next c code) codes more
 
 -- the cut and the return of power
 cut_dark : {part : ℕ} {l : Wire} {p : Place} {w : World} {c : Chip} → Agrees part l p w c
-    → answered c (answer_of (step (figure_of part) c.serial c.array c.state 10)) ≡ off_chip part c.serial c.state.kept c.array
+    → answered c (answer_of c.state (step (figure_of part) c.serial c.array c.state 10)) ≡ off_chip part c.serial c.state.kept c.array
 unfolding step live written
 cut_dark (off own kept array) = refl
 cut_dark (on own p w v sck si wp hold stage s) = refl
@@ -196,5 +196,5 @@ pub cut_leaves : (part : ℕ) → Fair (figure_of part) → {l : Wire} {p : Plac
 unfolding run step written
 cut_leaves part fair {c = c} m =
     next_steps part fair (moment_next part fair m 10) 11 refl
-    ∙ ap (λ (d : Chip). answered d (answer_of (step (figure_of part) d.serial d.array d.state 11)))
+    ∙ ap (λ (d : Chip). answered d (answer_of d.state (step (figure_of part) d.serial d.array d.state 11)))
     (next_steps part fair m 10 refl ∙ cut_dark m.agrees)

@@ -3,7 +3,7 @@
 use Prim.Native.Nat.{ℕ, suc, ◌+◌, ◌*◌, ◌%◌, ◌<◌, ◌≤◌}
 use Rattle.std.proofs.Common.{add_assoc, ◌∙◌, length-append, eqb-true}
 use native.Mathlib.Omega.{arith}
-use Rattle.std.specs.Prelude.{Bool, false, cond, ◌≡◌, eqb, length, take, drop}
+use Rattle.std.specs.Prelude.{Bool, false, cond, ◌≡◌, eqb, length, take, drop, Result, Ok, Err}
 use Rattle.std.proofs.Math.Bool.{true}
 use mathlib.Core.List.{List, [], ◌∷◌, ◌++◌, append_assoc, append-nil}
 use Rattle.std.proofs.Math.Path.{refl, sym, ap, subst}
@@ -15,8 +15,7 @@ use Rattle.parts.specs.Guards.{may_store, may_keep}
 use Rattle.parts.specs.declared.figures.Figure.{Figure}
 use Rattle.parts.specs.declared.commands.Command.{Command}
 use Rattle.parts.specs.declared.commands.Command.TheVariants.{Wren, Wrdi, Rdsr, Wrsr, Read, Fstrd, Write, Rdid, Snr, Sleep, Other}
-use Rattle.parts.specs.declared.guards.Verdict.{Verdict}
-use Rattle.parts.specs.declared.guards.Verdict.TheVariants.{Allowed, HeldBack}
+use Rattle.parts.specs.declared.guards.Reason.{Reason}
 use Rattle.stages.specs.Bits.{no_bits, take_bit}
 use Rattle.stages.specs.Wp.{line_of, is_up, came_up, came_with, at_first, byte_wp, byte_came}
 use Rattle.stages.specs.Last.{last_by}
@@ -252,12 +251,12 @@ module _ (f : Figure) (fair : Fair f) (w v : World) (es : List Edge) (x : Bit) (
 
   -- a data byte of a WRITE, and the status byte
   note_stored :
-      (at : ℕ) (verdict : Verdict)
+      (at : ℕ) (verdict : Result (Unit {0}) Reason)
       → record { latch = v.latch; kept = v.kept; array = written (store_note at b.value verdict) v.array }
       ≡ store_if v at b verdict
   unfolding written store_if
-  note_stored at Allowed = refl
-  note_stored at (HeldBack reason) = refl
+  note_stored at (Ok allowed) = refl
+  note_stored at (Err reason) = refl
 
   came_more : (done : List Byte) → came_by (done ++ b ∷ []) ≡ Bytes
   came_more [] = refl
@@ -267,7 +266,7 @@ module _ (f : Figure) (fair : Fair f) (w v : World) (es : List Edge) (x : Bit) (
     abbrev at : ℕ
     at = (start + length done) % f.size
 
-    abbrev verdict : Verdict
+    abbrev verdict : Result (Unit {0}) Reason
     verdict = may_store f v.latch v.kept b.wp at
 
     -- the byte that is stored last, and the next address
@@ -305,12 +304,12 @@ module _ (f : Figure) (fair : Fair f) (w v : World) (es : List Edge) (x : Bit) (
         }
 
   note_kept :
-      {n : ℕ} (read : List Byte → Reading) (fell : Bool) (verdict : Verdict) → Image f w then no_bits true n (λ bs. read (b ∷ bs)) (Over Drops)
+      {n : ℕ} (read : List Byte → Reading) (fell : Bool) (verdict : Result (Unit {0}) Reason) → Image f w then no_bits true n (λ bs. read (b ∷ bs)) (Over Drops)
       → keep_if f v (wrsr_byte f fell b) verdict ≡ effect f w (read (b ∷ []))
       → Led n (λ bs. read (b ∷ bs)) (kept_by f (seen_in v x.wp x.si) b.value verdict)
   unfolding written keep_if
-  note_kept read fell Allowed i e = record { image = i; world = e }
-  note_kept read fell (HeldBack reason) i e = record { image = i; world = e }
+  note_kept read fell (Ok allowed) i e = record { image = i; world = e }
+  note_kept read fell (Err reason) i e = record { image = i; world = e }
 
   -- past the first bit the level stays, and it is the byte's
   own : at_first sh x.wp b.wp ≡ b.wp

@@ -2,7 +2,7 @@
 -- by the select only moves a line. Assumes nothing.
 use Prim.Native.Nat.{ℕ, zero, suc, ◌+◌, ◌≤◌, ◌<◌, zero-le}
 use Rattle.std.proofs.Common.{arith, subst, leb-false, eqb-true}
-use Rattle.std.specs.Prelude.{Bool, cond, ◌&&◌, List, [], ◌≡◌, leb}
+use Rattle.std.specs.Prelude.{Bool, cond, ◌&&◌, List, [], ◌≡◌, leb, Ok}
 use Rattle.std.proofs.Math.Bool.{true, false}
 use Rattle.std.proofs.Math.Path.{refl}
 use Rattle.std.proofs.Math.Dec.{eqb}
@@ -20,7 +20,7 @@ use Rattle.stages.specs.declared.stage.Stage.{Stage}
 use Rattle.stages.specs.declared.stage.Stage.TheVariants.{Closed, Asleep}
 use Rattle.pins.specs.Levels.{at_rest, hold_high}
 use Rattle.pins.specs.Edges.{silent, cs_fall, cs_rise, sck_rise, sck_fall, hold_fall, hold_rise}
-use Rattle.step.specs.Step.{accepted, cs_stayed, live, step, written}
+use Rattle.step.specs.Step.{cs_stayed, live, step, written}
 use Rattle.chip.specs.Event.{answer_of}
 use Rattle.chip.specs.Run.{Chip, answered}
 use Rattle.pins.specs.declared.hold.Hold.{Hold}
@@ -104,7 +104,7 @@ each P (suc n) k code ps l h = go (eqb k code) refl (λ m. each P n (suc k) code
 module _ (part : ℕ) (fair : Fair (figure_of part)) where
   -- the step leads on
   abbrev Follows : Wire → Place → World → Chip → ℕ → Type 0
-  Follows l p w c code = Onward part l p w code (answered c (answer_of (step (figure_of part) c.serial c.array c.state code)))
+  Follows l p w c code = Onward part l p w code (answered c (answer_of c.state (step (figure_of part) c.serial c.array c.state code)))
 
   module _ (own : List ℕ) (w : World) (si wp : Line) where
     -- it agrees after this event, whatever the levels of SCK and /HOLD and whatever select is open
@@ -133,7 +133,7 @@ module _ (part : ℕ) (fair : Fair (figure_of part)) where
         → Agrees part (wire_of sck si wp High true) (outside asleep)
         (cond d (unlatched kept array) (record { latch = latch; kept = kept; array = array }))
         (answered (shut asleep sck latch kept array)
-        (answer_of (accepted
+        (answer_of (shut asleep sck latch kept array).state (Ok
         (cond (latch && d)
         (record { state = (shut asleep sck false kept array).state; note = Latch false })
         (silent (shut asleep sck latch kept array).state)))))
@@ -232,7 +232,7 @@ module _ (part : ℕ) (fair : Fair (figure_of part)) where
 -- The chip refuses what the lines say is refused, by the same number: with power on only a move of /HOLD.
 module _ (part : ℕ) where
   abbrev Refuses : Wire → Chip → ℕ → Type 0
-  Refuses l c code = (step (figure_of part) c.serial c.array c.state code).refusal ≡ refusal l code
+  Refuses l c code = (answer_of c.state (step (figure_of part) c.serial c.array c.state code)).refusal ≡ refusal l code
 
   module _ (own : List ℕ) (p : Place) (v : World) (si wp : Line) (stage : Stage) where
     abbrev Alike : Bool → Hold → ℕ → Type 0

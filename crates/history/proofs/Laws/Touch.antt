@@ -1,6 +1,6 @@
 -- The bytes that a transfer touched, over the image of the stage: the stage keeps the last one, and an edge adds one or none. A READ adds
 -- one at each eighth fall past its header, a WRITE at each byte that is stored. Assumes nothing.
-use Rattle.std.specs.Prelude.{ℕ, suc, ◌+◌, ◌*◌, ◌/◌, ◌%◌, ◌<◌, Bool, true, false, ◌≡◌, eqb}
+use Rattle.std.specs.Prelude.{ℕ, suc, ◌+◌, ◌*◌, ◌/◌, ◌%◌, ◌<◌, Bool, true, false, ◌≡◌, eqb, Result, Ok, Err}
 use Rattle.std.proofs.Common.{arith, ◌∙◌, eqb-true}
 use mathlib.Core.List.{List, [], ◌∷◌, ◌++◌, append-nil}
 use Rattle.std.proofs.Math.Path.{refl, sym, ap}
@@ -12,8 +12,7 @@ use Rattle.parts.specs.Guards.{may_store}
 use Rattle.parts.specs.declared.figures.Figure.{Figure}
 use Rattle.parts.specs.declared.commands.Command.{Command}
 use Rattle.parts.specs.declared.commands.Command.TheVariants.{Wren, Wrdi, Rdsr, Wrsr, Read, Fstrd, Write, Rdid, Snr, Sleep, Other}
-use Rattle.parts.specs.declared.guards.Verdict.{Verdict}
-use Rattle.parts.specs.declared.guards.Verdict.TheVariants.{Allowed, HeldBack}
+use Rattle.parts.specs.declared.guards.Reason.{Reason}
 use Rattle.stages.specs.Last.{last_by, last_of}
 use Rattle.stages.specs.declared.stage.End.{End}
 use Rattle.stages.specs.declared.stage.Purpose.{Purpose}
@@ -27,13 +26,13 @@ use Rattle.history.proofs.Laws.Edges.{rises_down, falls_down, places_more, store
 use Rattle.history.proofs.Laws.Stage.{Ended, over, to_status, to_ident, to_serial, status, ident, serial, data_of, Image, code, upper, lower, dummy, ready, showing, writing, keeping, settled}
 
 -- a byte more or none, by whether it is stored
-pub grows_by : {xs ys : List ℕ} (at : ℕ) (v : Verdict) → ys ≡ xs ++ stored_if at v → Grows xs ys
-grows_by at Allowed e = more at e
-grows_by {xs = xs} at (HeldBack reason) e = same (e ∙ append-nil xs)
+pub grows_by : {xs ys : List ℕ} (at : ℕ) (v : Result (Unit {0}) Reason) → ys ≡ xs ++ stored_if at v → Grows xs ys
+grows_by at (Ok allowed) e = more at e
+grows_by {xs = xs} at (Err reason) e = same (e ∙ append-nil xs)
 
-pub last_by_lem : (xs : List ℕ) (at : ℕ) (v : Verdict) → last_by (last_mark xs) at v ≡ last_mark (xs ++ stored_if at v)
-last_by_lem xs at Allowed = sym (last_more xs at)
-last_by_lem xs at (HeldBack reason) = ap last_mark (sym (append-nil xs))
+pub last_by_lem : (xs : List ℕ) (at : ℕ) (v : Result (Unit {0}) Reason) → last_by (last_mark xs) at v ≡ last_mark (xs ++ stored_if at v)
+last_by_lem xs at (Ok allowed) = sym (last_more xs at)
+last_by_lem xs at (Err reason) = ap last_mark (sym (append-nil xs))
 
 -- the bytes begun, by the falls that drove a bit
 begun_is : (d : ℕ) → begun (d + 1) ≡ suc (d / 8)

@@ -3,7 +3,7 @@
 use Prim.Native.Nat.{ℕ, zero, suc, ◌+◌, ◌*◌, ◌%◌, ◌<◌, ◌≤◌}
 use Rattle.std.proofs.Common.{mod-lt, ◌∙◌, leb-true, leb-false}
 use native.Mathlib.Omega.{arith}
-use Rattle.std.specs.Prelude.{Bool, ◌≡◌, leb}
+use Rattle.std.specs.Prelude.{Bool, ◌≡◌, leb, Result, Ok, Err}
 use Rattle.std.proofs.Math.Bool.{true, false}
 use mathlib.Core.List.{List, [], ◌∷◌, ◌++◌, append_assoc, append-nil}
 use Rattle.std.proofs.Math.Path.{refl, sym, ap}
@@ -11,8 +11,7 @@ use Rattle.std.proofs.Math.ListN.{length}
 use Rattle.parts.specs.Figures.{figure_of}
 use Rattle.parts.specs.Guards.{may_store}
 use Rattle.parts.specs.declared.figures.Figure.{Figure}
-use Rattle.parts.specs.declared.guards.Verdict.{Verdict}
-use Rattle.parts.specs.declared.guards.Verdict.TheVariants.{Allowed, HeldBack}
+use Rattle.parts.specs.declared.guards.Reason.{Reason}
 use Rattle.stages.specs.Last.{last_of}
 use Rattle.stages.specs.declared.stage.Stage.{Stage}
 use Rattle.chip.specs.Run.{Chip}
@@ -190,9 +189,9 @@ module _ (f : Figure) (some : 0 < f.size) where
       below_append f.size (stored_if at (may_store f w.latch w.kept b.wp at)) _ (one (may_store f w.latch w.kept b.wp at))
       (stored_below start (k + 1) (overlaid f w at b) bs)
     where
-      one : (v : Verdict) → AllBelow f.size (stored_if ((start + k) % f.size) v)
-      one Allowed = (mod-lt (start + k) some, tt)
-      one (HeldBack reason) = tt
+      one : (v : Result (Unit {0}) Reason) → AllBelow f.size (stored_if ((start + k) % f.size) v)
+      one (Ok allowed) = (mod-lt (start + k) some, tt)
+      one (Err reason) = tt
 
   pub touched_below : (w : World) (es : List Edge) (r : Reading) → AllBelow f.size (touched f w es r)
   unfolding touched
