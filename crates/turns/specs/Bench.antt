@@ -1,16 +1,17 @@
 -- What one event does to the bench (document 01, "The replay program"): to the chip and its record, to the array, and to
 -- the text that is printed. Assumes nothing.
-use Rattle.std.specs.Prelude.{ℕ, Bool, cond, List, [], ◌∷◌, ◌++◌, eqb, replicate}
+use Rattle.std.specs.Prelude.{◌≡◌, ℕ, Bool, cond, List, [], ◌∷◌, ◌++◌, eqb, replicate}
 use Rattle.parts.specs.Figures.{serial_bytes}
 use Rattle.pins.specs.declared.state.State.{State}
 use Rattle.step.specs.Step.{written}
 use Rattle.chip.specs.Event.{event}
 use Rattle.chip.specs.declared.event.Answer.{Answer}
 use Rattle.report.specs.Lines.{select_line}
-use Rattle.turns.specs.Page.{Page, page_of, printed}
+use Rattle.turns.specs.Page.{Page, printed}
 use Rattle.turns.specs.Stand.{closes, shown_by, after}
 use Rattle.turns.specs.declared.stand.Stand.{Stand}
-use Rattle.turns.specs.declared.turn.Turn.{Turn}
+use Rattle.turns.specs.Prints.{page_in}
+use Rattle.turns.specs.declared.turn.Bench.{Bench as Lent}
 
 -- the bench in the course of a run: the refusal that stopped it, or 0; what stands on it; the array; the first bytes of
 -- SO; and the text so far
@@ -77,17 +78,21 @@ pub record Desk : Type 0 where
   pub shown : List ℕ
   pub page : Page
 
--- a turn's answer with the slices that it left
-abbrev pub desk_of : Turn → List ℕ → List ℕ → List ℕ → Desk
-desk_of t array shown out =
-    record { refusal = t.refusal; stand = t.stand; array = array; shown = shown; page = page_of out t.at }
+-- the bench of a program, with what is printed on its page
+abbrev pub desk_of : Lent → Desk
+desk_of b = record { refusal = b.refusal; stand = b.stand; array = b.array.now; shown = b.shown; page = page_in b.page }
 
 -- a bench whose text is printed behind what the page has
 abbrev pub on_page : Page → Bench → Desk
 on_page p b =
     record { refusal = b.refusal; stand = b.stand; array = b.array; shown = b.shown; page = printed p b.text }
 
--- the bench that a turn goes on from, with no text since
-abbrev pub bench_of : Turn → List ℕ → List ℕ → Bench
-bench_of t array shown =
-    record { refusal = t.refusal; stand = t.stand; array = array; shown = shown; text = [] }
+-- the bench that a program goes on from, with no text since
+abbrev pub bench_of : Lent → Bench
+bench_of b = record { refusal = b.refusal; stand = b.stand; array = b.array.now; shown = b.shown; text = [] }
+
+-- a program takes the bench to where `f` leads it, and prints the text since; the array and the page are those that were lent
+pub record Takes (before : Lent) (f : Bench → Bench) (after : Lent) : Type 0 where
+  pub same_array : after.array.ghost_name ≡ before.array.ghost_name
+  pub same_slice : after.page.out.ghost_name ≡ before.page.out.ghost_name
+  pub desk : desk_of after ≡ on_page (page_in before.page) (f (bench_of before))

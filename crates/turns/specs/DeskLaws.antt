@@ -7,10 +7,11 @@ use Rattle.step.specs.Step.{written}
 use Rattle.chip.specs.Event.{event}
 use Rattle.chip.specs.declared.event.Answer.{Answer}
 use Rattle.turns.specs.Bench.{Bench, after_events, runs_on, stopped, closing, taken, after_answer, replay_serial, after_event, desk_of, on_page, bench_of}
-use Rattle.turns.specs.Page.{Page, page_of, printed}
+use Rattle.turns.specs.Page.{Page, printed}
 use Rattle.turns.specs.Stand.{after, shown_by}
 use Rattle.turns.specs.declared.stand.Stand.{Stand}
-use Rattle.turns.specs.declared.turn.Turn.{Turn}
+use Rattle.turns.specs.Prints.{page_in}
+use Rattle.turns.specs.declared.turn.Bench.{Bench as Lent}
 use Rattle.turns.specs.PrintLaws.{print_none, print_twice}
 
 -- the bench with a text in front of its own
@@ -48,22 +49,22 @@ tells_events (e ∷ es) t b = ap (λ (x : Bench). after_events x es) (go (runs_o
     go true = tells_event e t b
     go false = refl
 
--- a turn that told nothing yet
-pub desk_is : (t : Turn) (xs os out : List ℕ) → desk_of t xs os out ≡ on_page (page_of out t.at) (bench_of t xs os)
-desk_is t xs os out = λ i. record { refusal = t.refusal; stand = t.stand; array = xs; shown = os; page = sym (print_none (page_of out t.at)) i }
+-- a bench that told nothing yet
+pub desk_is : (b : Lent) → desk_of b ≡ on_page (page_in b.page) (bench_of b)
+desk_is b = λ i. record { refusal = b.refusal; stand = b.stand; array = b.array.now; shown = b.shown; page = sym (print_none (page_in b.page)) i }
 
--- a run that goes on from a turn is the run that goes on from the turn's bench, with its text printed first
-pub carry : (f : Bench → Bench) → Tells f → (t : Turn) (ys ps out : List ℕ) (p : Page) (b : Bench) → desk_of t ys ps out ≡ on_page p b
-    → on_page (page_of out t.at) (f (bench_of t ys ps)) ≡ on_page p (f b)
-carry f tells t ys ps out p b e =
-    ap (λ (q : Page). on_page q (f (bench_of t ys ps))) (λ i. (e i).page)
-    ∙ sym (behind b.text (f (bench_of t ys ps)))
-    ∙ ap (on_page p) (sym (tells b.text (bench_of t ys ps)) ∙ ap f same)
+-- a run that goes on from a program's bench is the run that goes on from the bench that it is, with its text printed first
+pub carry : (f : Bench → Bench) → Tells f → (y : Lent) (p : Page) (b : Bench) → desk_of y ≡ on_page p b
+    → on_page (page_in y.page) (f (bench_of y)) ≡ on_page p (f b)
+carry f tells y p b e =
+    ap (λ (q : Page). on_page q (f (bench_of y))) (λ i. (e i).page)
+    ∙ sym (behind b.text (f (bench_of y)))
+    ∙ ap (on_page p) (sym (tells b.text (bench_of y)) ∙ ap f same)
   where
     behind : (x : List ℕ) (c : Bench) → on_page p (front x c) ≡ on_page (printed p x) c
     behind x c =
         let e : printed p (x ++ c.text) ≡ printed (printed p x) c.text = sym (print_twice p.bytes p.at x c.text) in
         λ i. record { refusal = c.refusal; stand = c.stand; array = c.array; shown = c.shown; page = e i }
 
-    same : front b.text (bench_of t ys ps) ≡ b
+    same : front b.text (bench_of y) ≡ b
     same = λ i. record { refusal = (e i).refusal; stand = (e i).stand; array = (e i).array; shown = (e i).shown; text = append-nil b.text i }

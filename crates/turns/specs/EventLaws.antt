@@ -5,6 +5,7 @@ use Rattle.std.proofs.Common.{sym, ap, ◌∙◌, add-one, arith, drop_of_length
 use Rattle.std.proofs.Math.Bool.{false}
 use borrow.Author.Tests.{eq-eqb, ne_eqb}
 use Rattle.std.proofs.Math.Dec.{eqb}
+use Rattle.std.specs.Borrow.{MutBor}
 use Rattle.parts.specs.Figures.{figure_of, fits_serial}
 use Rattle.chip.specs.Answers.{paper}
 use Rattle.step.specs.Step.{written}
@@ -13,10 +14,12 @@ use Rattle.chip.specs.Outcomes.{paper_sole}
 use Rattle.chip.proofs.RefusalLaws.{refusal_stays}
 use Rattle.chip.specs.declared.event.Answer.{Answer}
 use Rattle.turns.specs.Bench.{Bench, after_events, stopped, select_text, closing, replay_serial, after_event, desk_of, on_page, bench_of}
-use Rattle.turns.specs.Page.{Page, page_of, printed}
+use Rattle.turns.specs.Page.{Page, printed}
 use Rattle.turns.specs.Stand.{closes, after, shown_by}
 use Rattle.turns.specs.declared.stand.Stand.{Stand}
-use Rattle.turns.specs.declared.turn.Turn.{Turn}
+use Rattle.turns.specs.Prints.{page_in}
+use Rattle.turns.specs.declared.page.Page.{Page as Sheet}
+use Rattle.turns.specs.declared.turn.Bench.{Bench as Lent}
 use Rattle.turns.specs.DeskLaws.{tells_events, desk_is, carry}
 use Rattle.turns.specs.PrintLaws.{print_none}
 
@@ -31,49 +34,50 @@ serial_fits (suc (suc (suc (suc zero)))) = refl
 serial_fits (suc (suc (suc (suc (suc zero))))) = refl
 serial_fits (suc (suc (suc (suc (suc (suc k)))))) = refl
 
-module _ (t : Turn) (xs os out : List ℕ) (code : ℕ) (a : Answer) (ys : List ℕ)
-    (is : paper a ≡ paper (event replay_serial xs t.stand.chip code))
-    (stores : ys ≡ written (event replay_serial xs t.stand.chip code).note xs) where
-  same : a ≡ event replay_serial xs t.stand.chip code
+module _ (x : Lent) (code : ℕ) (a : Answer) (array : MutBor (List ℕ))
+    (is : paper a ≡ paper (event replay_serial x.array.now x.stand.chip code))
+    (stores : array.now ≡ written (event replay_serial x.array.now x.stand.chip code).note x.array.now) where
+  same : a ≡ event replay_serial x.array.now x.stand.chip code
   same = paper_sole _ _ is
 
-  refuses : (a.refusal ≡ 0 → ⊥) → stopped (bench_of t ys os) a.refusal ≡ after_event (bench_of t xs os) code
+  -- a bench with that array
+  abbrev left : ℕ → Stand → List ℕ → Sheet → Lent
+  left refusal stand shown page = record { refusal = refusal; stand = stand; array = array; shown = shown; page = page }
+
+  refuses : (a.refusal ≡ 0 → ⊥) → stopped (bench_of (left x.refusal x.stand x.shown x.page)) a.refusal ≡ after_event (bench_of x) code
   unfolding after_event
   refuses h =
-      let no : eqb (event replay_serial xs t.stand.chip code).refusal 0 ≡ false = rw (← same) (ne_eqb _ _ h) in
-      rw (stores, refusal_stays t.stand.chip replay_serial xs code no, ← same, ne_eqb _ _ h)
+      let no : eqb (event replay_serial x.array.now x.stand.chip code).refusal 0 ≡ false = rw (← same) (ne_eqb _ _ h) in
+      rw (stores, refusal_stays x.stand.chip replay_serial x.array.now code no, ← same, ne_eqb _ _ h)
 
   pub event_refused : (a.refusal ≡ 0 → ⊥)
-      → desk_of (record { refusal = a.refusal; stand = t.stand; at = t.at }) ys os out
-      ≡ on_page (page_of out t.at) (after_event (bench_of t xs os) code)
-  event_refused h =
-      desk_is (record { refusal = a.refusal; stand = t.stand; at = t.at }) ys os out
-      ∙ ap (on_page (page_of out t.at)) (refuses h)
+      → desk_of (left a.refusal x.stand x.shown x.page) ≡ on_page (page_in x.page) (after_event (bench_of x) code)
+  event_refused h = desk_is (left a.refusal x.stand x.shown x.page) ∙ ap (on_page (page_in x.page)) (refuses h)
 
   module _ (next : Stand) (ps : List ℕ) (on : a.refusal ≡ 0)
-      (moved : next ≡ after t.stand code a) (shows : ps ≡ shown_by os t.stand code) where
-    takes : record { refusal = 0; stand = next; array = ys; shown = ps; text = closing t.stand.chip a.state next ps }
-        ≡ after_event (bench_of t xs os) code
+      (moved : next ≡ after x.stand code a) (shows : ps ≡ shown_by x.shown x.stand code) where
+    takes : record { refusal = 0; stand = next; array = array.now; shown = ps; text = closing x.stand.chip a.state next ps }
+        ≡ after_event (bench_of x) code
     unfolding after_event
     takes = rw (moved, shows, stores, ← same, eq-eqb _ _ on)
 
-    told : (v : Bool) (page : Page) → v ≡ closes t.stand.chip a.state
-        → page ≡ printed (page_of out t.at) (cond v (select_text next ps) [])
-        → record { refusal = 0; stand = next; array = ys; shown = ps; page = page }
-        ≡ on_page (page_of out t.at) (after_event (bench_of t xs os) code)
+    told : (v : Bool) (page : Page) → v ≡ closes x.stand.chip a.state
+        → page ≡ printed (page_in x.page) (cond v (select_text next ps) [])
+        → record { refusal = 0; stand = next; array = array.now; shown = ps; page = page }
+        ≡ on_page (page_in x.page) (after_event (bench_of x) code)
     told v page which e =
-        let line = ap (λ (w : Bool). printed (page_of out t.at) (cond w (select_text next ps) [])) which in
-        (λ i. record { refusal = 0; stand = next; array = ys; shown = ps; page = (e ∙ line) i })
-        ∙ ap (on_page (page_of out t.at)) takes
+        let line = ap (λ (w : Bool). printed (page_in x.page) (cond w (select_text next ps) [])) which in
+        (λ i. record { refusal = 0; stand = next; array = array.now; shown = ps; page = (e ∙ line) i })
+        ∙ ap (on_page (page_in x.page)) takes
 
-    pub event_closes : (v : Bool) (r : ℕ) (out' : List ℕ) → v ≡ closes t.stand.chip a.state → v ≡ true
-        → page_of out' r ≡ printed (page_of out t.at) (select_text next ps)
-        → desk_of (record { refusal = 0; stand = next; at = r }) ys ps out' ≡ on_page (page_of out t.at) (after_event (bench_of t xs os) code)
-    event_closes v r out' which h e = told true (page_of out' r) (sym h ∙ which) e
+    pub event_closes : (v : Bool) (page : Sheet) → v ≡ closes x.stand.chip a.state → v ≡ true
+        → page_in page ≡ printed (page_in x.page) (select_text next ps)
+        → desk_of (left 0 next ps page) ≡ on_page (page_in x.page) (after_event (bench_of x) code)
+    event_closes v page which h e = told true (page_in page) (sym h ∙ which) e
 
-    pub event_goes_on : (v : Bool) → v ≡ closes t.stand.chip a.state → v ≡ false
-        → desk_of (record { refusal = 0; stand = next; at = t.at }) ys ps out ≡ on_page (page_of out t.at) (after_event (bench_of t xs os) code)
-    event_goes_on v which h = told false (page_of out t.at) (sym h ∙ which) (sym (print_none (page_of out t.at)))
+    pub event_goes_on : (v : Bool) → v ≡ closes x.stand.chip a.state → v ≡ false
+        → desk_of (left 0 next ps x.page) ≡ on_page (page_in x.page) (after_event (bench_of x) code)
+    event_goes_on v which h = told false (page_in x.page) (sym h ∙ which) (sym (print_none (page_in x.page)))
 
 pub events_stay : (b : Bench) (es : List ℕ) → (b.refusal ≡ 0 → ⊥) → after_events b es ≡ b
 events_stay b [] h = refl
@@ -81,28 +85,25 @@ events_stay b (e ∷ es) h = rw (ne_eqb _ _ h) (events_stay b es h)
 
 -- event number k of a list, and the others
 pub events_on :
-    (es : List ℕ) (k n code : ℕ) (t : Turn) (xs os out : List ℕ) (r : Turn) (ys ps out' : List ℕ)
-    → n ≡ length es → k < n → code ≡ get_or es k 0 → t.refusal ≡ 0
-    → desk_of r ys ps out' ≡ on_page (page_of out t.at) (after_event (bench_of t xs os) code)
-    → on_page (page_of out' r.at) (after_events (bench_of r ys ps) (drop (k + 1) es))
-    ≡ on_page (page_of out t.at) (after_events (bench_of t xs os) (drop k es))
-events_on es k n code t xs os out r ys ps out' long inside is on one =
-    carry (λ b. after_events b (drop (k + 1) es)) (tells_events (drop (k + 1) es)) r ys ps out' _ _ one
-    ∙ ap (on_page (page_of out t.at)) (sym first)
+    (es : List ℕ) (k n code : ℕ) (y z : Lent) → n ≡ length es → k < n → code ≡ get_or es k 0 → y.refusal ≡ 0
+    → desk_of z ≡ on_page (page_in y.page) (after_event (bench_of y) code)
+    → on_page (page_in z.page) (after_events (bench_of z) (drop (k + 1) es)) ≡ on_page (page_in y.page) (after_events (bench_of y) (drop k es))
+events_on es k n code y z long inside is on one =
+    carry (λ b. after_events b (drop (k + 1) es)) (tells_events (drop (k + 1) es)) z _ _ one
+    ∙ ap (on_page (page_in y.page)) (sym first)
   where
-    first : after_events (bench_of t xs os) (drop k es) ≡ after_events (after_event (bench_of t xs os) code) (drop (k + 1) es)
+    first : after_events (bench_of y) (drop k es) ≡ after_events (after_event (bench_of y) code) (drop (k + 1) es)
     first =
         let l : k < length es = omega arith in
-        ap (after_events (bench_of t xs os)) (drop-cons es k 0 l)
-        ∙ ap (λ (v : Bool). after_events (cond v (after_event (bench_of t xs os) (get_or es k 0)) (bench_of t xs os)) (drop (suc k) es)) (eq-eqb _ _ on)
+        ap (after_events (bench_of y)) (drop-cons es k 0 l)
+        ∙ ap (λ (v : Bool). after_events (cond v (after_event (bench_of y) (get_or es k 0)) (bench_of y)) (drop (suc k) es)) (eq-eqb _ _ on)
         ∙ rw (add-one k, is)
 
 -- a refusal came
-pub events_end : (es : List ℕ) (t : Turn) (xs os out : List ℕ) → (t.refusal ≡ 0 → ⊥)
-    → desk_of t xs os out ≡ on_page (page_of out t.at) (after_events (bench_of t xs os) es)
-events_end es t xs os out h = desk_is t xs os out ∙ ap (on_page (page_of out t.at)) (sym (events_stay (bench_of t xs os) es h))
+pub events_end : (es : List ℕ) (y : Lent) → (y.refusal ≡ 0 → ⊥) → desk_of y ≡ on_page (page_in y.page) (after_events (bench_of y) es)
+events_end es y h = desk_is y ∙ ap (on_page (page_in y.page)) (sym (events_stay (bench_of y) es h))
 
 -- no event is left
-pub events_over : (es : List ℕ) (k n : ℕ) (t : Turn) (xs os out : List ℕ) → n ≡ length es → n ≤ k
-    → desk_of t xs os out ≡ on_page (page_of out t.at) (after_events (bench_of t xs os) (drop k es))
-events_over es k n t xs os out long past = desk_is t xs os out ∙ rw (drop_of_length-le es {i = k} (omega arith))
+pub events_over : (es : List ℕ) (k n : ℕ) (y : Lent) → n ≡ length es → n ≤ k
+    → desk_of y ≡ on_page (page_in y.page) (after_events (bench_of y) (drop k es))
+events_over es k n y long past = desk_is y ∙ rw (drop_of_length-le es {i = k} (omega arith))

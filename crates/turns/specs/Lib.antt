@@ -1,6 +1,7 @@
 pub mod Page
 pub mod PageLaws
 pub mod PrintLaws
+pub mod Prints
 pub mod Stand
 pub mod Bench
 pub mod DeskLaws

@@ -1,12 +1,16 @@
 -- "Two outcomes that both satisfy it are proved the same": what is promised of a desk fixes the answer and every lent byte.
 -- Assumes nothing.
-use Rattle.std.specs.Prelude.{◌≡◌, List, ℕ}
+use Rattle.std.specs.Prelude.{◌≡◌}
 use Rattle.std.proofs.Common.{sym, ◌∙◌}
 use Rattle.turns.specs.Bench.{Desk, desk_of}
-use Rattle.turns.specs.declared.turn.Turn.{Turn}
+use Rattle.turns.specs.declared.turn.Bench.{Bench as Lent}
 
-pub desk_one : (desk : Desk) (t u : Turn) (xs ys os ps out out' : List ℕ) → desk_of t xs os out ≡ desk → desk_of u ys ps out' ≡ desk
-    → (t ≡ u) × ((xs ≡ ys) × ((os ≡ ps) × (out ≡ out')))
-desk_one desk t u xs ys os ps out out' p q =
-    let e : desk_of t xs os out ≡ desk_of u ys ps out' = p ∙ sym q in
-    ((λ i. record { refusal = (e i).refusal; stand = (e i).stand; at = (e i).page.at }), ((λ i. (e i).array), ((λ i. (e i).shown), (λ i. (e i).page.bytes))))
+pub desk_one : (desk : Desk) (x y : Lent) → desk_of x ≡ desk → desk_of y ≡ desk
+    → (x.refusal ≡ y.refusal)
+    × ((x.stand ≡ y.stand)
+    × ((x.page.at ≡ y.page.at) × ((x.array.now ≡ y.array.now) × ((x.shown ≡ y.shown) × (x.page.out.now ≡ y.page.out.now)))))
+desk_one desk x y p q =
+    let e : desk_of x ≡ desk_of y = p ∙ sym q in (
+      (λ i. (e i).refusal),
+      ((λ i. (e i).stand), ((λ i. (e i).page.at), ((λ i. (e i).array), ((λ i. (e i).shown), (λ i. (e i).page.bytes))))),
+    )
