@@ -3,11 +3,10 @@
 #![tactic(auto)]
 
 use chip::list::{Listed, events};
+use console::{say, write};
 use pins::state::State;
+use refusals::refusal::number_or_0;
 use supply::power::power_up;
-
-// Standard output.
-const STDOUT_FILENO: i32 = 1;
 
 fn main() {
     let mut array = [0u8; 512];
@@ -15,9 +14,9 @@ fn main() {
     let powered = power_up(1, 0, &array);
     middle(powered.state, &mut array);
     let latch = stored(enabled(powered.state, &mut array), &mut array);
-    say(b"address 0 holds ", array[0]);
-    say(b", latch ", latch as u8);
-    io::write_all(STDOUT_FILENO, b"\n");
+    say(b"address 0 holds ", u64::from(array[0]));
+    say(b", latch ", u64::from(latch));
+    write(b"\n");
     short_array(powered.state);
     answer_places(powered.state);
     serial_numbers();
@@ -27,11 +26,7 @@ fn main() {
 // no event. So 51 are accepted: SO is released 48 times, then 1, 1, 0. The place of the refused event, the one behind it and a
 // spare one stay. In the state that they made the select is still open and shows bit 6; /CS closes it.
 fn middle(state: State, array: &mut [u8]) {
-    let mut codes = [0u64; 53];
-    codes_of(
-        b"043243243243243243253253243243243243243243243243232c1",
-        &mut codes,
-    );
+    let codes = b"043243243243243243253253243243243243243243243243232c1".map(code_of);
     let listed = send(
         b"refused in the middle",
         state,
@@ -50,8 +45,7 @@ fn middle(state: State, array: &mut [u8]) {
 
 // WREN: the latch is set.
 fn enabled(state: State, array: &mut [u8]) -> State {
-    let mut codes = [0u64; 26];
-    codes_of(b"04324324324324325325324321", &mut codes);
+    let codes = b"04324324324324325325324321".map(code_of);
     let listed = send(b"latch set", state, array, &codes, &mut [9u8; 26]);
     listed.state
 }
@@ -59,10 +53,8 @@ fn enabled(state: State, array: &mut [u8]) -> State {
 // A WRITE of 5Ah to 000 whose select is left open. Then 6 lowers /HOLD with SCK high: refused after the select, three bytes of
 // 24 events and one clock. The byte is stored at its eighth rise; the latch has not dropped.
 fn stored(state: State, array: &mut [u8]) -> bool {
-    let mut codes = [0u64; 76];
-    codes_of(
-        b"0432432432432432432532432432432432432432432432432432532432532532432532432361",
-        &mut codes,
+    let codes = b"0432432432432432432532432432432432432432432432432432532432532532432532432361".map(
+        code_of,
     );
     let listed = send(
         b"stored before a refusal",
@@ -109,8 +101,7 @@ fn answer_places(state: State) {
 fn serial_numbers() {
     let mut array = [0u8; 16384];
     let powered = power_up(5, 0, &array);
-    let mut codes = [0u64; 29];
-    codes_of(b"05325324324324324325325323232", &mut codes);
+    let codes = b"05325324324324324325325323232".map(code_of);
     let own = [0xA5u8, 0, 0, 0, 0, 0, 0, 0];
     let state = powered.state;
     send_as(
@@ -154,49 +145,18 @@ fn send_as(
     levels: &mut [u8],
 ) -> Listed {
     let listed = events(state, array, serial, codes, levels);
-    io::write_all(STDOUT_FILENO, name);
-    say(b": refused ", listed.refusal);
-    io::write_all(STDOUT_FILENO, b" count ");
-    io::print_decimal(STDOUT_FILENO, listed.count as u64);
-    io::write_all(STDOUT_FILENO, b" so ");
-    digits(levels);
-    io::write_all(STDOUT_FILENO, b"\n");
+    write(name);
+    say(b": refused ", u64::from(number_or_0(listed.refusal)));
+    say(b" count ", listed.count as u64);
+    write(b" so ");
+    for level in levels {
+        say(b"", u64::from(*level));
+    }
+    write(b"\n");
     listed
 }
 
-fn digits(levels: &[u8]) {
-    let mut i = 0;
-    while i < levels.len() {
-        say(b"", levels[i]);
-        i += 1;
-    }
-}
-
-// The codes that the hex digits of a text say.
-fn codes_of(text: &[u8], codes: &mut [u64]) {
-    let mut i = 0;
-    while i < codes.len() {
-        codes[i] = code_at(text, i);
-        i += 1;
-    }
-}
-
-// The hex digit at a place, in small letters, else 16, no event.
-fn code_at(text: &[u8], i: usize) -> u64 {
-    if i < text.len() {
-        let b = text[i];
-        match b {
-            b'0'..=b'9' => (b - b'0') as u64,
-            b'a'..=b'f' => (b - b'a' + 10) as u64,
-            _ => 16,
-        }
-    } else {
-        16
-    }
-}
-
-// Writes a word and a number after it, in decimal.
-fn say(word: &[u8], n: u8) {
-    io::write_all(STDOUT_FILENO, word);
-    io::print_decimal(STDOUT_FILENO, n as u64);
+// The code that a hex digit says; where it is none, 16, no event.
+fn code_of(digit: u8) -> u64 {
+    char::from(digit).to_digit(16).map_or(16, u64::from)
 }
