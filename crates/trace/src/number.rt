@@ -20,6 +20,7 @@ struct Whole {
 }
 
 // The number at `at`. The checks come in the order 10, (end), 8, 9.
+#[tactic(auto, using(crate::specs::ScanLaws::reading_beyond, crate::specs::ScanLaws::reading_end, crate::specs::ScanLaws::reading_inside))]
 pub fn read_at(s: &[u8], at: usize) -> Result<Read, Refused>
     ensures { ReadPromise s.now at result }
 {
