@@ -1,11 +1,12 @@
 -- Counting row cycles (document 02, Wish 9). Assumes nothing.
-use Rattle.std.specs.Prelude.{ℕ, ◌+◌, ◌-◌, ◌/◌, Bool, cond, not, ◌&&◌, List, [], ◌∷◌, eqb, get_or, length, set}
+use Rattle.std.specs.Prelude.{ℕ, ◌+◌, ◌-◌, ◌/◌, Bool, cond, not, ◌&&◌, List, [], ◌∷◌, eqb, get_or, length, set, Option, Some, None, Err}
 use Rattle.parts.specs.Figures.{figure_of}
 use Rattle.parts.specs.declared.figures.Figure.{Figure}
 use Rattle.stages.specs.Last.{last_of}
 use Rattle.pins.specs.Sound.{sound}
 use Rattle.pins.specs.declared.state.State.{State}
-use Rattle.step.specs.Step.{refused}
+use Rattle.refusals.specs.declared.refusal.Refusal.{Refusal}
+use Rattle.refusals.specs.declared.refusal.Refusal.TheVariants.{Unsound, NoPart, CounterCount}
 use Rattle.chip.specs.Event.{answer_of, event, first, lend_refusal}
 use Rattle.chip.specs.declared.event.Answer.{Answer}
 
@@ -44,19 +45,22 @@ row_count f = f.size / f.row
 
 -- "Refusals, in the counting call: 1 for parts 1 and 2, after 4; 16, counter slice not one per row, right before 5.": 4, 1, 2, 15, 16.
 -- By the lengths of the array, the serial number and the counters.
-unfoldable pub count_refusal : State → ℕ → ℕ → ℕ → ℕ
+unfoldable pub count_refusal : State → ℕ → ℕ → ℕ → Option Refusal
 count_refusal s len serial counters =
-    cond (not (sound s)) 4
-    (cond (eqb (figure_of s.part).row 0) 1
+    cond (not (sound s)) (Some Unsound)
+    (cond (eqb (figure_of s.part).row 0) (Some NoPart)
     (first (lend_refusal s len serial)
-    (cond (eqb counters (row_count (figure_of s.part))) 0 16)))
+    (cond (eqb counters (row_count (figure_of s.part))) None (Some CounterCount))))
 
--- the counting call on the lent array xs and the lent counters, with the lent serial number: the event's own answer, or a refusal before
--- it
+-- a refusal before the event, or the event's own answer
+abbrev pub refused_or : Option Refusal → State → Answer → Answer
+refused_or None s own = own
+refused_or (Some why) s own = answer_of s (Err why)
+
+-- the counting call on the lent array xs and the lent counters, with the lent serial number
 unfoldable pub counted : List ℕ → List ℕ → List ℕ → State → ℕ → Answer
 counted serial xs counters s code =
-    let refusal = count_refusal s (length xs) (length serial) (length counters) in
-    cond (eqb refusal 0) (event serial xs s code) (answer_of (refused refusal s))
+    refused_or (count_refusal s (length xs) (length serial) (length counters)) s (event serial xs s code)
 
 -- and the counters after it. A refused event leaves the state as it was, and so the counters.
 unfoldable pub counters_after : List ℕ → List ℕ → List ℕ → State → ℕ → List ℕ

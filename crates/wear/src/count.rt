@@ -1,5 +1,6 @@
 // The counting call: one event, with one counter of 32 bits for each row of the array.
 ghost use Rattle.std.specs.Prelude.{◌≡◌, ◌<◌};
+ghost use Rattle.supply.specs.Power.{checked};
 ghost use Rattle.wear.specs.Count.{one_more, same_row, add_all, cycled, count_refusal};
 ghost use Rattle.wear.specs.Promises.{CountPromise};
 
@@ -7,16 +8,15 @@ use chip::event::{Answer, event};
 use parts::figures::{figure_of, takes_serial};
 use pins::sound::sound_by;
 use pins::state::State;
+use refusals::refusal::Refusal;
 use select::notes::{Level, Note};
 use stages::last::last_of;
 
 // "A full counter stays full."
-const FULL: u32 = 0xFFFF_FFFF;
-
 fn one_more(count: u32) -> u32
     ensures { result ≡ one_more count }
 {
-    if count == FULL { FULL } else { count + 1 }
+    count.saturating_add(1)
 }
 
 // Whether the byte touched last before lay in the row of the byte touched last after, in rows of so many bytes.
@@ -32,6 +32,7 @@ fn same_row(size: usize, before: u32, after: u32) -> bool
 }
 
 // One more for the row of the byte touched last, unless the byte touched last before lay in it.
+#[tactic(auto, using(crate::proofs::CountLaws::adds_none, crate::proofs::CountLaws::adds_same, crate::proofs::CountLaws::adds_one))]
 fn add(counters: &mut [u32], size: usize, before: u32, after: u32)
     requires { 0 < size }
     ensures { counters.new ≡ add_all counters.old (cycled size before after) }
@@ -48,27 +49,27 @@ fn add(counters: &mut [u32], size: usize, before: u32, after: u32)
     }
 }
 
-// The refusals of a state and of what is lent with it: 4, 1, 2, 15, 16; 0 where none is given.
-fn count_refusal(state: State, len: usize, serial: usize, counters: usize) -> u8
-    ensures { result ≡ count_refusal state len serial counters }
+// The checks of a state and of what is lent with it, in the refusals' order.
+fn check_counted(state: State, len: usize, serial: usize, counters: usize) -> Result<(), Refusal>
+    ensures { result ≡ checked (count_refusal state len serial counters) }
 {
     let f = figure_of(state.part as u64);
     if !sound_by(f, state) {
-        return 4;
+        return Err(Refusal::Unsound);
     }
     if f.row == 0 {
-        return 1;
+        return Err(Refusal::NoPart);
     }
     if len != f.size {
-        return 2;
+        return Err(Refusal::ArrayLength);
     }
     if !takes_serial(f, serial) {
-        return 15;
+        return Err(Refusal::SerialLength);
     }
     if counters != f.size / f.row {
-        return 16;
+        return Err(Refusal::CounterCount);
     }
-    0
+    Ok(())
 }
 
 // One event on the lent array and the lent counters, with the lent serial number.
@@ -82,20 +83,18 @@ pub fn count_event(
     ensures { CountPromise serial.now array.old counters.old state code result
         array.new counters.new }
 {
-    let refusal = count_refusal(state, array.len(), serial.len(), counters.len());
-    if refusal != 0 {
+    if let Err(refusal) = check_counted(state, array.len(), serial.len(), counters.len()) {
         return Answer {
-            refusal,
+            refusal: Some(refusal),
             so: Level::Released,
             note: Note::Nothing,
             state,
         };
     }
-    let size = figure_of(state.part as u64).row;
-    let old = state.stage;
     let answer = event(state, array, serial, code);
-    let next = answer.state;
-    let new = next.stage;
-    add(counters, size, last_of(old), last_of(new));
+    let size = figure_of(state.part as u64).row;
+    let before = last_of(state.stage);
+    let after = last_of(answer.state.stage);
+    add(counters, size, before, after);
     answer
 }

@@ -1,6 +1,6 @@
 -- Row cycles, worked out by hand from document 02, Wish 9: part 3 has 512 rows of 4 bytes, parts 4 and 5 have 2,048 of 8. Each example
 -- tells the rule from a way in which it could be misread. Assumes nothing.
-use Rattle.std.specs.Prelude.{ℕ, Bool, true, ◌&&◌, List, [], ◌∷◌, ◌++◌, eqb, replicate, set}
+use Rattle.std.specs.Prelude.{ℕ, Bool, true, ◌&&◌, List, [], ◌∷◌, ◌++◌, is_none, replicate, set}
 use Rattle.trace.specs.Items.{clocked}
 use Rattle.parts.specs.Figures.{figure_of}
 use Rattle.pins.specs.declared.state.State.{State}
@@ -81,7 +81,7 @@ abbrev all_taken : Worn → List ℕ → Bool
 all_taken w [] = true
 all_taken w (code ∷ codes) =
     let c = w.chip in
-    eqb (counted c.serial c.array w.counters c.state code).refusal 0 && all_taken (count_one w code) codes
+    is_none (counted c.serial c.array w.counters c.state code).refusal && all_taken (count_one w code) codes
 
 abbrev taken : Worn → Turn → Bool
 taken w (plainly events) = true

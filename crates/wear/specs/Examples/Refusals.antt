@@ -9,6 +9,7 @@ use Rattle.pins.specs.Levels.{at_rest}
 use Rattle.pins.specs.declared.hold.Hold.TheVariants.{LowCsHigh}
 use Rattle.pins.specs.declared.state.State.{State}
 use Rattle.step.specs.Step.{written}
+use Rattle.refusals.specs.Refusals.{number_or_0}
 use Rattle.chip.specs.Examples.Run.{same, state_numbers}
 use Rattle.wear.specs.Count.{counted, counters_after}
 
@@ -31,7 +32,7 @@ refuses state len serial counters code number =
 abbrev stays : Refused → List ℕ → List ℕ → List ℕ → Bool
 stays c serial xs counters =
     let a = counted serial xs counters c.state c.code in
-    eqb a.refusal c.number
+    eqb (number_or_0 a.refusal) c.number
     && same (state_numbers a.state) (state_numbers c.state)
     && eqb (level_number a.so) 2
     && eqb (note_numbers a.note).kind 0

@@ -1,8 +1,8 @@
 -- The tests come in the order of the refusals; the row is the part's.
-use Rattle.std.proofs.Common.{refl, ap, not}
+use Rattle.std.proofs.Common.{ap, not}
 use Rattle.chip.proofs.EventLaws.{lend_misfits, lend_unnumbered, lend_fine}
 use Rattle.wear.proofs.CountLaws.{count_unsound, count_rowless, count_lends, count_misfits, count_fine}
-use Rattle.wear.proofs.count.count_refusal.Goals as goal
+use Rattle.wear.proofs.count.check_counted.Goals as goal
 
 pub returns-then-not-sound_by : goal.returns-then-not-sound_by
 returns-then-not-sound_by c = count_unsound _ _ _ _ _ c.figure_of-f.ensures c.sound_by.ensures (ap not c.if-not-sound_by.true)
@@ -16,7 +16,7 @@ returns-then-len-f c =
     let row = c.figure_of-f.ensures in
     let told = c.sound_by.ensures in
     let good = ap not c.if-not-sound_by.false in
-    count_lends _ _ _ _ _ row told good c.if-f-eq0.false (lend_misfits _ _ _ _ row told good c.if-len-f.true) refl
+    count_lends _ _ _ _ _ row told good c.if-f-eq0.false (lend_misfits _ _ _ _ row told good c.if-len-f.true)
 
 pub returns-then-not-takes_serial : goal.returns-then-not-takes_serial
 returns-then-not-takes_serial c =
@@ -24,7 +24,7 @@ returns-then-not-takes_serial c =
     let told = c.sound_by.ensures in
     let good = ap not c.if-not-sound_by.false in
     count_lends _ _ _ _ _ row told good c.if-f-eq0.false
-    (lend_unnumbered _ _ _ _ row told c.takes_serial.ensures good c.if-len-f.false (ap not c.if-not-takes_serial.true)) refl
+    (lend_unnumbered _ _ _ _ row told c.takes_serial.ensures good c.if-len-f.false (ap not c.if-not-takes_serial.true))
 
 pub returns-then-counters-f : goal.returns-then-counters-f
 returns-then-counters-f c =
