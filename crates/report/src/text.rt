@@ -6,7 +6,7 @@ ghost use Rattle.report.specs.Text.{Puts, line_room, capitals, hex, hexes, most_
 use crate::lines::LINE;
 
 // The most digits of a number; `specs/Text.antt` has it for the definitions.
-const DIGITS: usize = 20;
+pub const DIGITS: usize = 20;
 
 // "Hex is two capital digits a byte".
 const CAPITALS: [u8; 16] = *b"0123456789ABCDEF";

@@ -8,7 +8,7 @@ use pins::state::State;
 use refusals::refusal::Refusal;
 
 // Document 02, Wish 6: "A fresh array holds FF."
-const FRESH: u8 = 0xFF;
+pub const FRESH: u8 = 0xFF;
 
 // The answer to a power-up; a refused one gives the off state.
 #[derive(Clone, Copy)]
