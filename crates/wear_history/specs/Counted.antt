@@ -1,6 +1,6 @@
 -- Row cycles (document 02, Wish 9): the counters are the history's rows added up, and their sum is the history's count. What it says is in
 -- the history's Rows, which reads the list of events alone, and in wear's Count and Run. Assumes nothing.
-use Rattle.std.specs.Prelude.{ℕ, ◌<◌, true, List, ◌≡◌, length}
+use Rattle.std.specs.Prelude.{ℕ, ◌<◌, true, List, ◌≡◌, length, None}
 use Rattle.std.proofs.Math.Path.{refl, ap}
 use Rattle.std.proofs.Common.{sym, ◌∙◌}
 use Rattle.parts.specs.FigureLaws.{fair}
@@ -17,7 +17,7 @@ use Rattle.history.proofs.Laws.Worn.{touched_at, rows_from}
 use Rattle.wear_history.specs.Laws.Moments.{counts}
 
 module _
-    (part kept : ℕ) (array serial counters codes : List ℕ) (accepted : (power_up part kept array).refusal ≡ 0)
+    (part kept : ℕ) (array serial counters codes : List ℕ) (accepted : (power_up part kept array).refusal ≡ None)
     (numbered : fits_serial part (length serial) ≡ true) (rowed : 0 < (figure_of part).row) (sized : length counters ≡ row_count (figure_of part))
   where
     starts : from_power_up part kept array serial ≡ powered_up part kept array serial

@@ -18,6 +18,7 @@ use Rattle.pins.specs.Edges.{cs_fall, cs_rise, sck_rise, sck_fall}
 use Rattle.pins.specs.Levels.{at_rest}
 use Rattle.pins.specs.declared.state.State.{State}
 use Rattle.step.specs.Step.{live, step, written}
+use Rattle.chip.specs.Event.{answer_of}
 use Rattle.chip.specs.Examples.Run.{begins, blank, same, transfer, wren}
 use Rattle.wear.specs.Count.{cycled, add_all}
 use Rattle.wear.specs.Examples.Counts.{Wear, Turn, plainly, counting, keeping, lending, counters_of, of_reading, of_writing, of_full}
@@ -74,7 +75,7 @@ small =
 abbrev chip_rows : List ℕ → State → List ℕ → List ℕ
 chip_rows xs s [] = []
 chip_rows xs s (code ∷ codes) =
-    let t = step small [] xs s code in
+    let t = answer_of s (step small [] xs s code) in
     cycled small.row (last_of s.stage) (last_of t.state.stage) ++ chip_rows (written t.note xs) t.state codes
 
 abbrev ones : List ℕ

@@ -1,5 +1,5 @@
 -- The sum of all counters (document 02, Wish 9). Assumes nothing.
-use Rattle.std.specs.Prelude.{ℕ, zero, suc, ◌+◌, ◌*◌, ◌/◌, ◌<◌, Bool, cond, ◌≡◌, refl, eqb, replicate}
+use Rattle.std.specs.Prelude.{ℕ, zero, suc, ◌+◌, ◌*◌, ◌/◌, ◌<◌, Bool, cond, ◌≡◌, refl, eqb, replicate, None}
 use Rattle.std.proofs.Math.Nat.{zero-add, div-eq_of_eq-mul_left}
 use Rattle.std.proofs.Common.{div-lt_iff_lt-mul, ◌∙◌, arith}
 use Rattle.std.proofs.Math.Bool.{true, false}
@@ -62,7 +62,7 @@ count_of f (unrowed none) some = absurd (omega (arith, none, some))
 count_of f (rowed count two here whole) some = (count, (whole, div-eq_of_eq-mul_left some whole))
 
 module _
-    (part kept : ℕ) (array serial codes : List ℕ) (accepted : (power_up part kept array).refusal ≡ 0)
+    (part kept : ℕ) (array serial codes : List ℕ) (accepted : (power_up part kept array).refusal ≡ None)
     (numbered : fits_serial part (length serial) ≡ true) (some : 0 < (figure_of part).row)
   where
     abbrev zeros : List ℕ

@@ -2,7 +2,7 @@
 -- Assumes nothing.
 use Prim.Native.Nat.{ℕ, ◌<◌}
 use Rattle.std.proofs.Common.{arith, ◌∙◌, eq-eqb, ne_eqb}
-use Rattle.std.specs.Prelude.{true, ◌≡◌, length}
+use Rattle.std.specs.Prelude.{true, ◌≡◌, length, None}
 use Rattle.std.proofs.Math.Bool.{false}
 use mathlib.Core.List.{List, [], ◌∷◌, ◌++◌}
 use Rattle.std.proofs.Math.Path.{sym, ap}
@@ -36,7 +36,7 @@ module _ (part : ℕ) (fair : Fair (figure_of part)) (rowed : 0 < (figure_of par
 
     -- nothing is refused of the state and what is lent with it
     passes : (counters : List ℕ) → length counters ≡ row_count (figure_of part)
-        → count_refusal c.state (length c.array) (length c.serial) (length counters) ≡ 0
+        → count_refusal c.state (length c.array) (length c.serial) (length counters) ≡ None
     unfolding count_refusal
     passes counters sized = rw (m.good, rows, fits, takes, lent)
       where
