@@ -1,7 +1,8 @@
 -- What one event does to the bench (document 01, "The replay program"): to the chip and its record, to the array, and to
 -- the text that is printed. Assumes nothing.
-use Rattle.std.specs.Prelude.{◌≡◌, ℕ, Bool, cond, List, [], ◌∷◌, ◌++◌, eqb, replicate}
+use Rattle.std.specs.Prelude.{Option, None, is_none, ◌≡◌, ℕ, Bool, cond, List, [], ◌∷◌, ◌++◌, replicate}
 use Rattle.parts.specs.Figures.{serial_bytes}
+use Rattle.refusals.specs.declared.refusal.Refusal.{Refusal}
 use Rattle.pins.specs.declared.state.State.{State}
 use Rattle.step.specs.Step.{written}
 use Rattle.chip.specs.Event.{event}
@@ -13,20 +14,20 @@ use Rattle.turns.specs.declared.stand.Stand.{Stand}
 use Rattle.turns.specs.Prints.{page_in}
 use Rattle.turns.specs.declared.turn.Bench.{Bench as Lent}
 
--- the bench in the course of a run: the refusal that stopped it, or 0; what stands on it; the array; the first bytes of
+-- the bench in the course of a run: the refusal that stopped it, if any; what stands on it; the array; the first bytes of
 -- SO; and the text so far
 pub record Bench : Type 0 where
-  pub refusal : ℕ
+  pub refusal : Option Refusal
   pub stand : Stand
   pub array : List ℕ
   pub shown : List ℕ
   pub text : List ℕ
 
 abbrev pub runs_on : Bench → Bool
-runs_on b = eqb b.refusal 0
+runs_on b = is_none b.refusal
 
 -- a refusal came, and all else is as it was
-abbrev pub stopped : Bench → ℕ → Bench
+abbrev pub stopped : Bench → Option Refusal → Bench
 stopped b refusal =
     record { refusal = refusal; stand = b.stand; array = b.array; shown = b.shown; text = b.text }
 
@@ -42,7 +43,7 @@ closing before next stand shown = cond (closes before next) (select_text stand s
 abbrev pub taken : Bench → State → Stand → List ℕ → List ℕ → Bench
 taken b next stand array shown =
     record {
-      refusal = 0;
+      refusal = None;
       stand = stand;
       array = array;
       shown = shown;
@@ -52,7 +53,7 @@ taken b next stand array shown =
 -- "Lent memory stays at every refusal."
 abbrev pub after_answer : Bench → ℕ → Answer → Bench
 after_answer b code a =
-    cond (eqb a.refusal 0)
+    cond (is_none a.refusal)
     (taken b a.state (after b.stand code a) (written a.note b.array) (shown_by b.shown b.stand code))
     (stopped b a.refusal)
 
@@ -72,7 +73,7 @@ after_events b (code ∷ codes) = after_events (cond (runs_on b) (after_event b 
 -- ---- the bench as a program has it: the text stands on a page
 
 pub record Desk : Type 0 where
-  pub refusal : ℕ
+  pub refusal : Option Refusal
   pub stand : Stand
   pub array : List ℕ
   pub shown : List ℕ

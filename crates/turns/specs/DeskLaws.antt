@@ -1,8 +1,9 @@
 -- A run tells behind what was told before it, so it can go on from a page that has the text so far: `carry`. Assumes
 -- nothing.
-use Rattle.std.specs.Prelude.{◌≡◌, refl, Bool, true, false, cond, List, [], ◌∷◌, ◌++◌, ℕ, eqb}
+use Rattle.std.specs.Prelude.{Option, None, is_none, ◌≡◌, refl, Bool, true, false, cond, List, [], ◌∷◌, ◌++◌, ℕ}
 use Rattle.std.proofs.Common.{sym, ap, ◌∙◌, append_assoc, append-nil}
 use Rattle.pins.specs.declared.state.State.{State}
+use Rattle.refusals.specs.declared.refusal.Refusal.{Refusal}
 use Rattle.step.specs.Step.{written}
 use Rattle.chip.specs.Event.{event}
 use Rattle.chip.specs.declared.event.Answer.{Answer}
@@ -24,12 +25,12 @@ abbrev pub Tells : (Bench → Bench) → Type 0
 Tells f = (t : List ℕ) (b : Bench) → f (front t b) ≡ front t (f b)
 
 tells_answer :
-    (t : List ℕ) (b : Bench) (next : State) (stand : Stand) (ys ps : List ℕ) (refusal : ℕ) (v : Bool)
+    (t : List ℕ) (b : Bench) (next : State) (stand : Stand) (ys ps : List ℕ) (refusal : Option Refusal) (v : Bool)
     → cond v (taken (front t b) next stand ys ps) (stopped (front t b) refusal)
     ≡ front t (cond v (taken b next stand ys ps) (stopped b refusal))
 tells_answer t b next stand ys ps refusal true =
     let line : List ℕ = closing b.stand.chip next stand ps in
-    λ i. record { refusal = 0; stand = stand; array = ys; shown = ps; text = append_assoc t b.text line i }
+    λ i. record { refusal = None; stand = stand; array = ys; shown = ps; text = append_assoc t b.text line i }
 tells_answer t b next stand ys ps refusal false = refl
 
 tells_event : (code : ℕ) → Tells (λ b. after_event b code)
@@ -39,7 +40,7 @@ tells_event code t b = go (event replay_serial b.array b.stand.chip code)
     go : (a : Answer) → after_answer (front t b) code a ≡ front t (after_answer b code a)
     go a =
         tells_answer t b a.state (after b.stand code a) (written a.note b.array)
-        (shown_by b.shown b.stand code) a.refusal (eqb a.refusal 0)
+        (shown_by b.shown b.stand code) a.refusal (is_none a.refusal)
 
 pub tells_events : (es : List ℕ) → Tells (λ b. after_events b es)
 tells_events [] t b = refl

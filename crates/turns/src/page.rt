@@ -1,11 +1,13 @@
 // A page that the report's lines are printed on: a lent slice, cut where it ends.
 ghost use Rattle.std.specs.Prelude.{◌≡◌};
 ghost use Rattle.report.specs.Lines.{part_line, end_line};
+ghost use Rattle.refusals.specs.Refusals.{number_or_0};
 ghost use Rattle.turns.specs.Bench.{select_text};
 ghost use Rattle.turns.specs.Page.{page_of, printed};
 ghost use Rattle.turns.specs.Prints.{Prints, page_in};
 
 use crate::stand::Stand;
+use refusals::refusal::{Refusal, number_or_0};
 use report::lines::{LINE, end_line, part_line, select_line};
 use report::record::SHOWN;
 
@@ -66,11 +68,11 @@ impl<'a> Page<'a> {
     }
 
     // The last line.
-    pub fn print_end(&mut self, kept: u8, latch: bool, refusal: u8)
-        ensures { Prints self.old (end_line kept latch refusal) self.new }
+    pub fn print_end(&mut self, kept: u8, latch: bool, refusal: Option<Refusal>)
+        ensures { Prints self.old (end_line kept latch (number_or_0 refusal)) self.new }
     {
         let mut line = [0u8; LINE];
-        let n = end_line(&mut line, kept, latch, refusal);
+        let n = end_line(&mut line, kept, latch, number_or_0(refusal));
         self.print(&line[..n]);
     }
 }

@@ -5,13 +5,14 @@ use crate::page::Page;
 use crate::stand::Stand;
 use chip::event::event;
 use parts::figures::SERIAL;
+use refusals::refusal::Refusal;
 use report::record::SHOWN;
 
-// The bench in the course of a run: the refusal that stopped it, or 0, what stands on it, the array, the first bytes of SO in
+// The bench in the course of a run: the refusal that stopped it, if any, what stands on it, the array, the first bytes of SO in
 // the last select, and the page that the lines of the selects are printed on.
 #[derive(Drop)]
 pub struct Bench<'a> {
-    pub refusal: u8,
+    pub refusal: Option<Refusal>,
     pub stand: Stand,
     pub array: &'a mut [u8],
     pub shown: [u8; SHOWN],
@@ -29,13 +30,13 @@ impl Bench<'_> {
         let stand = self.stand;
         let chip = stand.chip;
         let answer = event(chip, self.array, &REPLAY_SERIAL, code);
-        if answer.refusal != 0 {
-            self.refusal = answer.refusal;
+        if let Some(refusal) = answer.refusal {
+            self.refusal = Some(refusal);
             return;
         }
         let next = answer.state;
         let after = stand.after(code, answer, &mut self.shown);
-        self.refusal = 0;
+        self.refusal = None;
         self.stand = after;
         if stand.closes(next) {
             self.page.print_select(after, &self.shown);

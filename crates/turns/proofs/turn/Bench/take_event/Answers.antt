@@ -3,8 +3,8 @@ use Rattle.std.proofs.Common.{refl}
 use Rattle.turns.specs.EventLaws.{event_refused, event_closes, event_goes_on}
 use Rattle.turns.proofs.turn.Bench.take_event.Goals as goal
 
-pub returns-then-answer-ne0 : goal.returns-then-answer-ne0
-returns-then-answer-ne0 c = record { same_array = refl; same_slice = refl; desk = search event_refused }
+pub returns-in-Some : goal.returns-in-Some
+returns-in-Some c = record { same_array = refl; same_slice = refl; desk = search event_refused }
 
 pub returns-then-closes : goal.returns-then-closes
 returns-then-closes c = record { same_array = refl; same_slice = c.print_select.ensures.same_slice; desk = search event_closes }
