@@ -3,7 +3,6 @@
 // that they stay two functions and the checks take no room in the loop (docs/SPEED.md).
 ghost use Rattle.std.specs.Prelude.{None, ◌≡◌, ◌≤◌, length};
 ghost use Rattle.parts.specs.Figures.{figure_of};
-ghost use Rattle.select.specs.Notes.{level_number};
 ghost use Rattle.supply.specs.Power.{checked};
 ghost use Rattle.chip.specs.Event.{lend_refusal, tried};
 ghost use Rattle.chip.specs.List.{set_all_out, course};
@@ -13,7 +12,7 @@ use parts::figures::{Figure, figure_of, takes_serial};
 use pins::sound::sound_by;
 use pins::state::{Moved, State};
 use refusals::refusal::Refusal;
-use select::notes::{Level, Note};
+use select::notes::Note;
 use step::step::{step, store};
 
 // How far the codes were taken: the refusal that stopped them, the count of those accepted, the last one's note, and the state
@@ -62,16 +61,6 @@ fn attempt(
     }
 }
 
-fn level_number(level: Level) -> u8
-    ensures { result ≡ level_number level }
-{
-    match level {
-        Level::Low => 0,
-        Level::High => 1,
-        Level::Released => 2,
-    }
-}
-
 // The codes one after the other, up to the first refusal, each one's level of SO at its own place. Nothing is refused of the state
 // and what is lent with it before the first, so nothing is before any other: an event leads to a sound state of the same part, and
 // what it stores keeps the array's length (document 02, Wish 10).
@@ -96,7 +85,7 @@ pub(crate) fn go(
                 note = moved.note;
                 state = moved.state;
                 store(array, note);
-                levels[i] = level_number(state.so());
+                levels[i] = u8::from(state.so());
             }
             Err(refusal) => {
                 return Ran {

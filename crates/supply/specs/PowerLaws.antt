@@ -1,10 +1,10 @@
 -- What an accepted power-up says: its numbers pass their tests, and so both fit a byte; it gives the power-up state.
 -- Accepted or refused, its state is sound. Assumes nothing.
-use Rattle.std.specs.Prelude.{ℕ, ◌<◌, ◌≡◌, Bool, cond, not, List, length, Option, Some, None, is_none, Ok}
+use Rattle.std.specs.Prelude.{ℕ, ◌<◌, ◌≡◌, Bool, cond, not, List, length, Option, Some, None, is_none}
 use Rattle.std.proofs.Math.Path.{refl}
 use Rattle.std.proofs.Math.Bool.{true, false}
 use Rattle.std.proofs.lemmas.Option.{none-some}
-use Rattle.std.proofs.Common.{arith, sym, lt_of_le_of_lt, lt_trans, lit<}
+use Rattle.std.proofs.Common.{sym, lt_of_le_of_lt, lt_trans, lit<}
 use borrow.Author.Tests.{eqb-true}
 use Rattle.std.specs.Int.Bits.{bit_and}
 use Rattle.std.proofs.lemmas.Nat.{and_le_r}
@@ -12,7 +12,7 @@ use Rattle.parts.specs.Figures.{figure_of, is_part, in_mask, fits_part}
 use Rattle.parts.specs.FigureLaws.{fair, below_count}
 use Rattle.refusals.specs.declared.refusal.Refusal.{Refusal}
 use Rattle.refusals.specs.declared.refusal.Refusal.TheVariants.{NoPart, ArrayLength, KeptBits}
-use Rattle.supply.specs.Power.{checked, fill_refusal, power_refusal, power_up}
+use Rattle.supply.specs.Power.{fill_refusal, power_refusal, power_up}
 use Rattle.supply.specs.declared.power.Powered.{Powered}
 use Rattle.pins.specs.Levels.{at_rest}
 use Rattle.pins.specs.Sound.{sound}

@@ -4,12 +4,12 @@
 
 use chip::event::event;
 use chip::list::events;
-use select::notes::Level;
+use refusals::refusal::{Refusal, number_or_0};
 use supply::power::power_up;
 
-fn told(refusal: u8, count: usize) -> u64 {
+fn told(refusal: Option<Refusal>, count: usize) -> u64 {
     if count < 72057594037927936 {
-        (count as u64) * 256 + (refusal as u64)
+        (count as u64) * 256 + u64::from(number_or_0(refusal))
     } else {
         0
     }
@@ -29,14 +29,6 @@ pub extern "C" fn by_list(
     told(listed.refusal, listed.count)
 }
 
-fn number(level: Level) -> u8 {
-    match level {
-        Level::Low => 0,
-        Level::High => 1,
-        Level::Released => 2,
-    }
-}
-
 // The same by single calls.
 #[unsafe(no_mangle)]
 pub extern "C" fn by_events(
@@ -46,22 +38,17 @@ pub extern "C" fn by_events(
     serial: &[u8],
     levels: &mut [u8],
 ) -> u64 {
-    let powered = power_up(part, 0, array);
-    let mut state = powered.state;
-    let mut i = 0;
-    while i < codes.len() {
-        let after = i + 1;
-        if levels.len() <= i {
-            return told(12, i);
-        }
-        let answer = event(state, array, serial, codes[i]);
-        if answer.refusal != 0 {
+    let mut state = power_up(part, 0, array).state;
+    for (i, code) in codes.iter().enumerate() {
+        let Some(level) = levels.get_mut(i) else {
+            return told(Some(Refusal::FewAnswers), i);
+        };
+        let answer = event(state, array, serial, *code);
+        if answer.refusal.is_some() {
             return told(answer.refusal, i);
         }
-        let so = answer.so;
         state = answer.state;
-        levels[i] = number(so);
-        i = after;
+        *level = u8::from(answer.so);
     }
-    told(0, i)
+    told(None, codes.len())
 }
