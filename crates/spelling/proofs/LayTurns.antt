@@ -10,33 +10,29 @@ use borrow.Author.Tests.{le-ltb, lt-ltb, le-leb, lt-leb}
 use lib.ListN.{length, get_or, set, drop, length-append, drop_of_length-le}
 use lib.Seq.{sets, sets-eq, length-sets, drop-cons}
 use Rattle.trace.specs.Figures.{groups, largest}
-use Rattle.trace.specs.Answers.{Told, placed, written_told, number_of}
+use Rattle.trace.specs.Answers.{Told, placed}
 use Rattle.trace.specs.ByteLaws.{below}
 use Rattle.trace.specs.Form.{form}
-use Rattle.trace.specs.Items.{pulse}
 use Rattle.trace.specs.Number.{writing, slice_written}
 use Rattle.trace.specs.Promises.{WritePromise}
 use Rattle.trace.specs.SpellingLaws.{some_bytes, form_spells}
 use Rattle.trace.specs.WriteLaws.{at_placing}
-use Rattle.trace.specs.declared.answer.Refusal.{Refusal}
-use Rattle.trace.specs.declared.answer.Refusal.TheVariants.{Malformed, TooLarge, Beyond, NoRoom}
-use Rattle.trace.specs.declared.answer.Written.{Written}
-use Rattle.trace.specs.declared.answer.Written.TheVariants.{Placed, Refused}
-use Rattle.spelling.specs.Items.{forms, bit_items}
+use Rattle.trace.specs.declared.answer.Refused.{Refused}
+use Rattle.refusals.specs.Refusals.{number_of}
+use Rattle.refusals.specs.RefusalLaws.{given_sole}
+use Rattle.refusals.specs.declared.refusal.Refusal.{Refusal}
+use Rattle.std.specs.Prelude.{Option, Some, None, Result, Ok, Err}
+use Rattle.std.specs.Result.{result_ok}
+use Rattle.spelling.specs.Items.{forms, bit_pulse, bit_items}
 use Rattle.sayings.specs.Characters.{digit_of}
 use Rattle.spelling.specs.FormLaws.{forms_append}
 use Rattle.spelling.specs.Lays.{Small, Lays, laid}
-use Rattle.spelling.specs.declared.put.Laid.{Laid}
-use Rattle.spelling.specs.declared.put.Laid.TheVariants.{Behind, Full}
 
 -- ---- one trace number
 
 -- a refusal has a number
 numbered : (why : Refusal) → number_of why ≡ 0 → ⊥
-numbered Malformed z = omega arith
-numbered TooLarge z = omega arith
-numbered Beyond z = omega arith
-numbered NoRoom z = omega arith
+numbered why z = absurd (let none : ◌≡◌ {A = Option Refusal} (Some why) None = given_sole (Some why) None z in let z : ◌≡◌ {A = ℕ} 0 1 = cc in omega arith)
 
 pub some_form : (n : ℕ) → n ≤ largest → 0 < length (form n)
 some_form n h = some_bytes (form_spells (groups - 1) n (omega arith))
@@ -60,35 +56,29 @@ module _ (s : List ℕ) (at n : ℕ) (h : n ≤ largest) where
       let some = some_form n h in
       sym (sets-eq (form n) s at (omega arith) ∙ at_placing s at n (at + length (form n)) (sym (room_written r)))
 
-  module _ (x : List ℕ) (a : Written) (p : WritePromise s at n a x) where
-    there_written : length (form n) ≤ length s - at → x ≡ sets s at (form n)
-    there_written r = p.1 ∙ slice_written_lem r
-
-    pub placed_lays : (next : ℕ) → a ≡ Placed next → Lays s at (form n) x (Behind next)
-    placed_lays next e =
-        let told : placed next ≡ writing s at n = sym (ap written_told e) ∙ p.0 in
-        ⊎_elim (λ r. absurd (no_room r (sym (ap (λ (t : Told). t.refusal) told))))
+  module _ (x : List ℕ) where
+    pub item_lays : (a : Result ℕ Refused) → WritePromise s at n a x → Lays s at (form n) x (result_ok a)
+    item_lays (Ok next) p =
+        ⊎_elim (λ r. absurd (no_room r (sym (ap (λ (t : Told). t.refusal) p.0))))
         (λ r.
-        let is : next ≡ at + length (form n) = ap (λ (t : Told). t.place) (told ∙ room_written r) in
-        record { answer = ap Behind is ∙ sym (rw (le-leb (length (form n)) (length s - at) r)); there = there_written })
+        let is : next ≡ at + length (form n) = ap (λ (t : Told). t.place) (p.0 ∙ room_written r) in
+        record { answer = ap Some is ∙ sym (rw (le-leb (length (form n)) (length s - at) r)); there = λ h. p.1 ∙ slice_written_lem h })
         (below (length s - at) (length (form n)))
-
-    pub refused_lays : (why : Refusal) (place : ℕ) → a ≡ Refused why place → Lays s at (form n) x Full
-    refused_lays why place e =
-        ⊎_elim (λ r. record { answer = sym (rw (lt-leb (length (form n)) (length s - at) r)); there = there_written })
-        (λ r. absurd (numbered why (ap (λ (t : Told). t.refusal) (sym (ap written_told e) ∙ p.0 ∙ room_written r))))
+    item_lays (Err why) p =
+        ⊎_elim (λ r. record { answer = sym (rw (lt-leb (length (form n)) (length s - at) r)); there = λ h. p.1 ∙ slice_written_lem h })
+        (λ r. absurd (numbered why.refusal (ap (λ (t : Told). t.refusal) (p.0 ∙ room_written r))))
         (below (length s - at) (length (form n)))
 
 -- ---- bytes in pieces
 
 -- what putting n bytes answers, taken apart
-pub behind : (size at n next : ℕ) → Behind next ≡ laid size at n → (n ≤ size - at) × (next ≡ at + n)
+pub behind : (size at n next : ℕ) → Some next ≡ laid size at n → (n ≤ size - at) × (next ≡ at + n)
 behind size at n next e =
     ⊎_elim (λ r. absurd (let z : ◌≡◌ {A = ℕ} 0 1 = cc (rw (lt-leb n (size - at) r) at e) in omega arith))
     (λ r. (r, cc (rw (le-leb n (size - at) r) at e)))
     (below (size - at) n)
 
-pub full : (size at n : ℕ) → Full ≡ laid size at n → size - at < n
+pub full : (size at n : ℕ) → None ≡ laid size at n → size - at < n
 full size at n e =
     ⊎_elim (λ r. r)
     (λ r. absurd (let z : ◌≡◌ {A = ℕ} 0 1 = cc (rw (le-leb n (size - at) r) at e) in omega arith))
@@ -114,7 +104,7 @@ start s first all = record { bytes = refl; size = refl; place = refl; room = ome
 
 -- one piece of it more
 module _ {s all t x piece left : List ℕ} {first at : ℕ} (rest : List ℕ) (l : Laying s first all t at left) (e : left ≡ piece ++ rest) where
-  pub more : {next : ℕ} {r : Laid} → Lays t at piece x r → r ≡ Behind next → Laying s first all x next rest
+  pub more : {next : ℕ} {r : Option ℕ} → Lays t at piece x r → r ≡ Some next → Laying s first all x next rest
   more {next} p is-behind =
       let q = behind (length t) at (length piece) next (sym is-behind ∙ p.answer) in
       let is : x ≡ sets t at piece = p.there q.0 in
@@ -127,18 +117,18 @@ module _ {s all t x piece left : List ℕ} {first at : ℕ} (rest : List ℕ) (l
         fits = omega (arith, l.fits, l.size, l.room);
       }
 
-  pub stop : {r : Laid} → Lays t at piece x r → r ≡ Full → Lays s first all x Full
+  pub stop : {r : Option ℕ} → Lays t at piece x r → r ≡ None → Lays s first all x None
   stop p is-full =
       let q = full (length t) at (length piece) (sym is-full ∙ p.answer) in
       let sum = ap length e ∙ length-append piece rest in
       let long : length s - first < length all = omega (arith, l.place, l.size, l.room) in
       record { answer = sym (rw (lt-leb (length all) (length s - first) long)); there = λ r. absurd (omega arith) }
 
-pub done : {s all t : List ℕ} {first at : ℕ} → Laying s first all t at [] → Lays s first all t (Behind at)
+pub done : {s all t : List ℕ} {first at : ℕ} → Laying s first all t at [] → Lays s first all t (Some at)
 done {s} {all} {t} {first} {at} l =
     let fit : length all ≤ length s - first = omega (arith, l.place, l.fits, l.room) in
     let end : at ≡ first + length all = omega (arith, l.place) in
-    record { answer = ap Behind end ∙ sym (rw (le-leb (length all) (length s - first) fit)); there = λ r. l.bytes }
+    record { answer = ap Some end ∙ sym (rw (le-leb (length all) (length s - first) fit)); there = λ r. l.bytes }
 
 -- ---- items
 
@@ -150,39 +140,45 @@ module _ (items : List ℕ) (i : ℕ) (h : i < length items) where
   small_drop f = rw (add-one i) (rw (drop-cons items i 0 h) at f)
 
   module _ {s all t x : List ℕ} {first at : ℕ} (l : Laying s first all t at (forms (drop i items))) where
-    pub item_more : {next : ℕ} {r : Laid} → Lays t at (form (get_or items i 0)) x r → r ≡ Behind next → Laying s first all x next (forms (drop (i + 1) items))
+    pub item_more : {next : ℕ} {r : Option ℕ} → Lays t at (form (get_or items i 0)) x r → r ≡ Some next → Laying s first all x next (forms (drop (i + 1) items))
     item_more p is = more (forms (drop (i + 1) items)) l forms_drop p is
 
-    pub item_stop : {r : Laid} → Lays t at (form (get_or items i 0)) x r → r ≡ Full → Lays s first all x Full
+    pub item_stop : {r : Option ℕ} → Lays t at (form (get_or items i 0)) x r → r ≡ None → Lays s first all x None
     item_stop p is = stop (forms (drop (i + 1) items)) l forms_drop p is
 
-pub items_done : {s all t : List ℕ} {first at : ℕ} (items : List ℕ) (i : ℕ) → length items ≤ i → Laying s first all t at (forms (drop i items)) → Lays s first all t (Behind at)
+pub items_done : {s all t : List ℕ} {first at : ℕ} (items : List ℕ) (i : ℕ) → length items ≤ i → Laying s first all t at (forms (drop i items)) → Lays s first all t (Some at)
 items_done items i h l = done (rw (drop_of_length-le items h) at l)
 
 -- ---- bits
 
 module _ (word : List ℕ) (i : ℕ) (h : i < length word) where
-  bits_drop : (g d : ℕ) → g ≡ digit_of (get_or word i 0) → d ≡ g → forms (bit_items (drop i word)) ≡ forms ((4 + d) ∷ 3 ∷ 2 ∷ []) ++ forms (bit_items (drop (i + 1) word))
-  bits_drop g d p q =
+  bits_drop : (d : Option ℕ) → d ≡ digit_of (get_or word i 0) → forms (bit_items (drop i word)) ≡ forms (bit_pulse d) ++ forms (bit_items (drop (i + 1) word))
+  bits_drop d e =
       ap (λ (l : List ℕ). forms (bit_items l)) (drop-cons word i 0 h)
-      ∙ forms_append (pulse (digit_of (get_or word i 0))) (bit_items (drop (suc i) word))
-      ∙ rw (add-one i, ← p, ← q)
+      ∙ forms_append (bit_pulse (digit_of (get_or word i 0))) (bit_items (drop (suc i) word))
+      ∙ rw (add-one i, ← e)
 
   module _ {s all t x : List ℕ} {first at : ℕ} (l : Laying s first all t at (forms (bit_items (drop i word)))) where
     pub bit_more :
-        {next : ℕ} {r : Laid} (g d : ℕ) → g ≡ digit_of (get_or word i 0) → d ≡ g → Lays t at (forms ((4 + d) ∷ 3 ∷ 2 ∷ [])) x r → r ≡ Behind next
+        {next : ℕ} {r : Option ℕ} (d : Option ℕ) (bit : ℕ) → d ≡ digit_of (get_or word i 0) → d ≡ Some bit → Lays t at (forms ((4 + bit) ∷ 3 ∷ 2 ∷ [])) x r → r ≡ Some next
         → Laying s first all x next (forms (bit_items (drop (i + 1) word)))
-    bit_more g d e f p is = more (forms (bit_items (drop (i + 1) word))) l (bits_drop g d e f) p is
+    bit_more d bit e f p is = more (forms (bit_items (drop (i + 1) word))) l (rw f at (bits_drop d e)) p is
 
     pub bit_stop :
-        {r : Laid} (g d : ℕ) → g ≡ digit_of (get_or word i 0) → d ≡ g → Lays t at (forms ((4 + d) ∷ 3 ∷ 2 ∷ [])) x r → r ≡ Full
-        → Lays s first all x Full
-    bit_stop g d e f p is = stop (forms (bit_items (drop (i + 1) word))) l (bits_drop g d e f) p is
+        {r : Option ℕ} (d : Option ℕ) (bit : ℕ) → d ≡ digit_of (get_or word i 0) → d ≡ Some bit → Lays t at (forms ((4 + bit) ∷ 3 ∷ 2 ∷ [])) x r → r ≡ None
+        → Lays s first all x None
+    bit_stop d bit e f p is = stop (forms (bit_items (drop (i + 1) word))) l (rw f at (bits_drop d e)) p is
 
-pub bits_done : {s all t : List ℕ} {first at : ℕ} (word : List ℕ) (i : ℕ) → length word ≤ i → Laying s first all t at (forms (bit_items (drop i word))) → Lays s first all t (Behind at)
+  -- no bit, no pulse
+  pub bit_none :
+      {s all t : List ℕ} {first at : ℕ} → Laying s first all t at (forms (bit_items (drop i word))) → (d : Option ℕ) → d ≡ digit_of (get_or word i 0) → d ≡ None
+      → Laying s first all t at (forms (bit_items (drop (i + 1) word)))
+  bit_none l d e f = rw (rw f at (bits_drop d e)) at l
+
+pub bits_done : {s all t : List ℕ} {first at : ℕ} (word : List ℕ) (i : ℕ) → length word ≤ i → Laying s first all t at (forms (bit_items (drop i word))) → Lays s first all t (Some at)
 bits_done word i h l = done (rw (drop_of_length-le word h) at l)
 
 -- ---- nothing
 
-pub none : (s : List ℕ) (at : ℕ) → Lays s at [] s (Behind at)
+pub none : (s : List ℕ) (at : ℕ) → Lays s at [] s (Some at)
 none s at = done (start s at [])

@@ -16,13 +16,11 @@ use Rattle.spelling.specs.Meaning.{start, ready, meaning}
 use Rattle.spelling.specs.Told.{Told, spelt, rest, followed, Follows, passed, finished, wholly}
 use Rattle.sayings.specs.declared.chars.Kind.{Kind}
 use Rattle.sayings.specs.declared.chars.Kind.TheVariants.{NewLine, Hash, Blank, Letter}
-use Rattle.spelling.specs.declared.marks.Ended.{Ended}
 use Rattle.spelling.specs.declared.marks.Mode.{Mode}
 use Rattle.spelling.specs.declared.marks.Mode.TheVariants.{Between, Comment, Inside}
-use Rattle.sayings.specs.declared.says.Next.{Next}
 use Rattle.spelling.specs.declared.turns.Here.{Here}
-use Rattle.spelling.specs.declared.turns.Turn.{Turn}
-use Rattle.spelling.specs.declared.turns.Turn.TheVariants as turn
+use Rattle.spelling.specs.declared.turns.Stop.{Stop}
+use Rattle.std.specs.Prelude.{Option, Result, Ok, Err}
 
 -- ---- a word begins before the place where it is read
 
@@ -66,31 +64,28 @@ drop_char text i h =
     ∙ ap₂ (λ (c : ℕ) (n : ℕ). c ∷ drop n (ended text)) (next_char text i h) (sym (add-one i))
 
 module _ (text out : List ℕ) (mode : Mode) (here : Here) (i : ℕ) {all : Told} (inv : rest text out here (unread text mode i) ≡ all) where
-  module _ (h : i ≤ length text) (c : ℕ) (kind : Kind) (word : Ended) (line : Bool) (is-char : c ≡ char_at text i) (is-kind : kind ≡ kind_of c)
+  module _ (h : i ≤ length text) (c : ℕ) (kind : Kind) (word : Option ℕ) (line : Bool) (is-char : c ≡ char_at text i) (is-kind : kind ≡ kind_of c)
       (is_IsWord : word ≡ word_ended mode kind) (is-line : line ≡ line_ended mode kind) where
     char_marks : unread text mode i ≡ word_marks word i ++ line_marks line i ++ unread text (mode_after mode kind i) (i + 1)
     char_marks =
         ap (marks mode i) (drop_char text i h)
         ∙ rw (← is-char, ← is-kind, ← is_IsWord, ← is-line, add-one i)
 
-    module _ (x : List ℕ) (t : Turn) (f : Follows text out here (word_marks word i ++ line_marks line i) x t) where
-      comes : (s : Turn) → t ≡ s → followed text s x (unread text (mode_after mode kind i) (i + 1)) ≡ all
+    module _ (x : List ℕ) (t : Result Here Stop) (f : Follows text out here (word_marks word i ++ line_marks line i) x t) where
+      comes : (s : Result Here Stop) → t ≡ s → followed text s x (unread text (mode_after mode kind i) (i + 1)) ≡ all
       comes s e =
-          ap (λ (r : Turn). followed text r x (unread text (mode_after mode kind i) (i + 1))) (sym e)
+          ap (λ (r : Result Here Stop). followed text r x (unread text (mode_after mode kind i) (i + 1))) (sym e)
           ∙ sym (f.comes (unread text (mode_after mode kind i) (i + 1)))
           ∙ ap (rest text out here) (sym char_marks)
           ∙ inv
 
-      pub char_on : (k : Here) (m : Mode) → t ≡ turn.On k → m ≡ mode_after mode kind i → rest text x k (unread text m (i + 1)) ≡ all
-      char_on k m e q = rw q (comes (turn.On k) e)
+      pub char_on : (k : Here) (m : Mode) → t ≡ Ok k → m ≡ mode_after mode kind i → rest text x k (unread text m (i + 1)) ≡ all
+      char_on k m e q = rw q (comes (Ok k) e)
 
-      pub char_wrong : (place : ℕ) (n : Next) → t ≡ turn.Wrong place n → passed (turn.Wrong place n) x ≡ all
-      char_wrong place n e = comes (turn.Wrong place n) e
+      pub char_stop : (why : Stop) → t ≡ Err why → passed (Err why) x ≡ all
+      char_stop why e = comes (Err why) e
 
-      pub char_full : (place : ℕ) → t ≡ turn.Full place → passed (turn.Full place) x ≡ all
-      char_full place e = comes (turn.Full place) e
-
-  pub text_end : (t : Turn) → length text < i → t ≡ finished here (length text) → passed t out ≡ all
+  pub text_end : (t : Result Here Stop) → length text < i → t ≡ finished here (length text) → passed t out ≡ all
   text_end t h e = rw e (go (ready here.next) refl ∙ ap (λ (l : List ℕ). rest text out here (marks mode i l)) (sym none) ∙ inv)
     where
       none : drop i (ended text) ≡ []

@@ -2,7 +2,7 @@
 -- is item b + 12, and byte A5h, item 177, is B1h 01h. Each is computed from the definitions. Assumes nothing.
 use Rattle.std.specs.Prelude.{Bool, true, false, ◌&&◌, List, [], ◌∷◌, ℕ, T, eqb}
 use Prim.Native.String.{String}
-use Rattle.sayings.specs.Characters.{ascii, kind_of, lowered, digit_of}
+use Rattle.sayings.specs.Characters.{ascii, kind_of, digit_of}
 use Rattle.sayings.specs.Says.{pin_of, said_verb, said_any, said_name, said_part, said_kept, said_level, pulses_of, said_idle, said_held, said_bits, said_item, said_word, said_end}
 use Rattle.sayings.specs.Words.{named, byte_of, number_of, all_bits}
 use Rattle.sayings.specs.declared.says.Next.{Next}
@@ -109,5 +109,5 @@ bad =
     ∷ []
 
 examples : T (all good && all bad)
-unfolding spelt meaning place_at stepped ready form kind_of lowered digit_of named byte_of number_of all_bits pin_of said_verb said_any said_name said_part said_kept said_level pulses_of said_idle said_held said_bits said_item said_word said_end
+unfolding spelt meaning place_at stepped ready form kind_of digit_of named byte_of number_of all_bits pin_of said_verb said_any said_name said_part said_kept said_level pulses_of said_idle said_held said_bits said_item said_word said_end
 examples = tt

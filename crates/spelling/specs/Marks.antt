@@ -1,12 +1,10 @@
 -- A text character by character: where words and lines end. Assumes nothing.
-use Rattle.std.specs.Prelude.{ℕ, suc, ◌≤◌, Bool, true, false, cond, List, [], ◌∷◌, ◌++◌, ltb, length, get_or}
+use Rattle.std.specs.Prelude.{ℕ, suc, ◌≤◌, Bool, true, false, cond, List, [], ◌∷◌, ◌++◌, Option, Some, None, ltb, length, get_or}
 use Rattle.sayings.specs.Characters.{char, kind_of}
 use Rattle.sayings.specs.declared.chars.Kind.{Kind}
 use Rattle.sayings.specs.declared.chars.Kind.TheVariants.{NewLine, Hash, Blank, Letter}
 use Rattle.spelling.specs.declared.marks.Mode.{Mode}
 use Rattle.spelling.specs.declared.marks.Mode.TheVariants.{Between, Comment, Inside}
-use Rattle.spelling.specs.declared.marks.Ended.{Ended}
-use Rattle.spelling.specs.declared.marks.Ended.TheVariants.{Nothing, Word}
 
 -- the character at a place; behind the last one the text ends as a line does
 unfoldable pub char_at : List ℕ → ℕ → ℕ
@@ -18,13 +16,13 @@ pub data Mark : Type 0 where
   line_end : ℕ → Mark
 
 -- the word that a character ends: any but a letter ends one
-abbrev pub word_ended : Mode → Kind → Ended
-word_ended Between kind = Nothing
-word_ended Comment kind = Nothing
-word_ended (Inside from) NewLine = Word from
-word_ended (Inside from) Hash = Word from
-word_ended (Inside from) Blank = Word from
-word_ended (Inside from) Letter = Nothing
+abbrev pub word_ended : Mode → Kind → Option ℕ
+word_ended Between kind = None
+word_ended Comment kind = None
+word_ended (Inside from) NewLine = Some from
+word_ended (Inside from) Hash = Some from
+word_ended (Inside from) Blank = Some from
+word_ended (Inside from) Letter = None
 
 -- a line's end and a comment's start end what the line says; in a comment it has ended
 abbrev pub ends_line : Kind → Bool
@@ -56,9 +54,9 @@ mode_after mode Blank i = after_blank mode
 mode_after mode Letter i = after_letter mode i
 
 -- the marks that a character at a place sets
-abbrev pub word_marks : Ended → ℕ → List Mark
-word_marks Nothing i = []
-word_marks (Word from) i = word from i ∷ []
+abbrev pub word_marks : Option ℕ → ℕ → List Mark
+word_marks None i = []
+word_marks (Some from) i = word from i ∷ []
 
 abbrev pub line_marks : Bool → ℕ → List Mark
 line_marks ends i = cond ends (line_end i ∷ []) []
@@ -76,6 +74,6 @@ ModeFits Between i = Unit {0}
 ModeFits Comment i = Unit {0}
 ModeFits (Inside from) i = from ≤ i
 
-abbrev pub EndedFits : Ended → ℕ → Type 0
-EndedFits Nothing i = Unit {0}
-EndedFits (Word from) i = from ≤ i
+abbrev pub EndedFits : Option ℕ → ℕ → Type 0
+EndedFits None i = Unit {0}
+EndedFits (Some from) i = from ≤ i

@@ -1,5 +1,5 @@
 -- What a text means: the items that it names, or where it is wrong and what was expected there. Assumes nothing.
-use Rattle.std.specs.Prelude.{ℕ, ◌+◌, ◌-◌, Bool, true, false, cond, List, [], ◌∷◌, ◌++◌, leb, length, take, drop}
+use Rattle.std.specs.Prelude.{ℕ, ◌+◌, ◌-◌, Bool, true, false, cond, List, [], ◌∷◌, ◌++◌, Option, Some, None, Result, Ok, Err, leb, length, take, drop}
 use Rattle.sayings.specs.Characters.{ascii}
 use Rattle.spelling.specs.Items.{items_of, forms}
 use Rattle.spelling.specs.Marks.{Mark, word, line_end, marks}
@@ -10,8 +10,8 @@ use Rattle.sayings.specs.declared.says.Next.TheVariants as next
 use Rattle.sayings.specs.declared.says.Said.{Said}
 use Rattle.sayings.specs.declared.says.Said.TheVariants as said
 use Rattle.spelling.specs.declared.turns.Here.{Here}
-use Rattle.spelling.specs.declared.turns.Step.{Step}
-use Rattle.spelling.specs.declared.turns.Step.TheVariants as step
+use Rattle.spelling.specs.declared.turns.Stop.{Stop}
+use Rattle.spelling.specs.declared.turns.Stop.TheVariants as stop
 
 -- the items that a text names; or the place of what is wrong, with what was expected there, of what has no room in the
 -- trace; or a text that is too long
@@ -28,7 +28,6 @@ start = record { selected = false; next = next.Part; at = 0 }
 -- where the reading stands after what was said, with the trace so long: "/CS goes low before the first" byte of a line
 -- "and high at the line's end"
 abbrev pub here_after : Bool → Said → ℕ → Here
-here_after selected said.Wrong at = record { selected = selected; next = next.Word; at = at }
 here_after selected (said.Then n) at = record { selected = selected; next = n; at = at }
 here_after selected (said.One item n) at = record { selected = selected; next = n; at = at }
 here_after selected (said.Byte byte) at = record { selected = true; next = next.Word; at = at }
@@ -36,22 +35,18 @@ here_after selected said.Close at = record { selected = false; next = next.Word;
 here_after selected (said.InHold pulses) at = record { selected = selected; next = next.Word; at = at }
 here_after selected said.Clocked at = record { selected = selected; next = next.Word; at = at }
 
-abbrev pub is_wrong : Said → Bool
-is_wrong said.Wrong = true
-is_wrong (said.Then n) = false
-is_wrong (said.One item n) = false
-is_wrong (said.Byte byte) = false
-is_wrong said.Close = false
-is_wrong (said.InHold pulses) = false
-is_wrong said.Clocked = false
-
--- what follows what a word says, or a line's end with no word: its items stand behind a trace that has room for so many bytes
-unfoldable pub stepped : ℕ → Here → List ℕ → Said → Step
-stepped size here w said =
+-- what follows what a word says at a place, or a line's end with no word: its items stand behind a trace that has room for
+-- so many bytes; nothing that may be said there; no room
+unfoldable pub stepped : ℕ → Here → ℕ → List ℕ → Option Said → Result Here Stop
+stepped size here place w None = Err (stop.Wrong place here.next)
+stepped size here place w (Some said) =
     let n = length (forms (items_of here.selected w said)) in
-    cond (is_wrong said) step.Wrong
-    (cond (leb n (size - here.at)) (step.On (here_after here.selected said (here.at + n)))
-    step.Full)
+    cond (leb n (size - here.at)) (Ok (here_after here.selected said (here.at + n))) (Err (stop.Full place))
+
+-- the items of what is said, if anything is
+abbrev pub items_said : Bool → List ℕ → Option Said → List ℕ
+items_said selected w None = []
+items_said selected w (Some said) = items_of selected w said
 
 -- the characters from a place up to another
 abbrev pub part : ℕ → ℕ → List ℕ → List ℕ
@@ -62,7 +57,7 @@ abbrev pub word_of : List ℕ → Mark → List ℕ
 word_of text (word first end) = part first end text
 word_of text (line_end i) = []
 
-abbrev pub said_by : List ℕ → Here → Mark → Said
+abbrev pub said_by : List ℕ → Here → Mark → Option Said
 said_by text here (word first end) = said_word here.next (part first end text)
 said_by text here (line_end i) = said_end here.selected here.next
 
@@ -91,11 +86,15 @@ adds items (wrong place n) = wrong place n
 adds items (full place) = full place
 adds items long = long
 
--- a mark at a place where n may stand: its items, and then the meaning of what follows; or what is wrong
-abbrev pub onward : Step → ℕ → Next → List ℕ → (Here → Meaning) → Meaning
-onward (step.On here) place n items more = adds items (more here)
-onward step.Wrong place n items more = wrong place n
-onward step.Full place n items more = full place
+-- what is wrong where the reading stops
+abbrev pub stopped : Stop → Meaning
+stopped (stop.Wrong place n) = wrong place n
+stopped (stop.Full place) = full place
+
+-- a mark: its items, and then the meaning of what follows; or what is wrong
+abbrev pub onward : Result Here Stop → List ℕ → (Here → Meaning) → Meaning
+onward (Ok here) items more = adds items (more here)
+onward (Err why) items more = stopped why
 
 -- the meaning of marks, one after the other
 abbrev pub walk : List ℕ → ℕ → Here → List Mark → Meaning
@@ -103,7 +102,7 @@ walk text size here [] = cond (ready here.next) (names []) (wrong (length text) 
 walk text size here (m ∷ ms) =
     let said = said_by text here m in
     let w = word_of text m in
-    onward (stepped size here w said) (place_of m) here.next (items_of here.selected w said) (λ h. walk text size h ms)
+    onward (stepped size here (place_of m) w said) (items_said here.selected w said) (λ h. walk text size h ms)
 
 -- the most characters of a text
 abbrev pub longest : ℕ

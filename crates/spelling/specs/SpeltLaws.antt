@@ -2,7 +2,7 @@
 -- names. Assumes nothing.
 --     spelt_short     what is answered as the trace's length is at most what the replay reads
 --     round_trip      reading the trace number by number, from its first byte to its end, gives the items
-use Rattle.std.specs.Prelude.{◌≡◌, List, [], ◌∷◌, ◌++◌, ℕ, ◌+◌, ◌≤◌, ltb, length}
+use Rattle.std.specs.Prelude.{◌≡◌, List, [], ◌∷◌, ◌++◌, Result, Ok, ℕ, ◌+◌, ◌≤◌, ltb, length}
 use Rattle.std.proofs.Common.{sym, ap, ◌∙◌, append_assoc, append-nil, arith, length-append}
 use Rattle.laws.specs.TestLaws.{choose}
 use Rattle.trace.specs.Answers.{number_read, ended}
@@ -15,8 +15,7 @@ use Rattle.spelling.specs.Lays.{Small}
 use Rattle.spelling.specs.Meaning.{Meaning, names, wrong, full, long, longest, meaning}
 use Rattle.spelling.specs.MeaningLaws.{Names, implied, named_room, named_small}
 use Rattle.spelling.specs.Spelt.{most_bytes, spelt, answered, Spells}
-use Rattle.spelling.specs.declared.spell.Answer.{Answer}
-use Rattle.spelling.specs.declared.spell.Answer.TheVariants as answer
+use Rattle.spelling.specs.declared.spell.Fault.{Fault}
 
 -- ---- the trace is short enough
 
@@ -27,13 +26,13 @@ short : (text : List ℕ) → Names Short (spelt text)
 unfolding spelt
 short text = choose (Names Short) (ltb longest (length text)) tt (named_room most_bytes text)
 
-answered_short : (text : List ℕ) (n : ℕ) (m : Meaning) → Names Short m → answer.Spelt n ≡ answered text m → n ≤ most_bytes
+answered_short : (text : List ℕ) (n : ℕ) (m : Meaning) → Names Short m → Ok n ≡ answered text m → n ≤ most_bytes
 answered_short text n (names items) h e = let is : n ≡ length (forms items) = cc in omega arith
 answered_short text n (wrong i k) h e = absurd (let z : ◌≡◌ {A = ℕ} 0 1 = cc in omega arith)
 answered_short text n (full i) h e = absurd (let z : ◌≡◌ {A = ℕ} 0 1 = cc in omega arith)
 answered_short text n long h e = absurd (let z : ◌≡◌ {A = ℕ} 0 1 = cc in omega arith)
 
-pub spelt_short : (text before after : List ℕ) (r : Answer) (n : ℕ) → Spells text before after r → r ≡ answer.Spelt n → n ≤ most_bytes
+pub spelt_short : (text before after : List ℕ) (r : Result ℕ Fault) (n : ℕ) → Spells text before after r → r ≡ Ok n → n ≤ most_bytes
 spelt_short text before after r n s e = answered_short text n (spelt text) (short text) (sym e ∙ s.answer)
 
 -- ---- the round trip

@@ -2,9 +2,9 @@
 ghost use Rattle.std.specs.Prelude.{◌≡◌, ◌+◌, ◌≤◌, length};
 ghost use Rattle.std.proofs.lemmas.List.Edits.{sets};
 ghost use Rattle.spelling.specs.Meaning.{longest};
-ghost use Rattle.spelling.specs.Spelt.{Spells, most_bytes, next_place, place_from, place_at};
+ghost use Rattle.spelling.specs.Spelt.{Spells, most_bytes, fault_of, next_place, place_from, place_at};
 
-use crate::turns::{Turn, pass};
+use crate::turns::{Stop, pass};
 use sayings::says::Next;
 use trace::reader::MOST_BYTES;
 
@@ -12,17 +12,16 @@ use trace::reader::MOST_BYTES;
 pub const LONGEST: usize = 262_144;
 
 // A place of a text, both counted from 1.
-#[derive(Clone, Copy)]
+#[derive(Clone, Copy, Debug, PartialEq, Eq)]
 pub struct Place {
     pub line: u64,
     pub column: u64,
 }
 
-// The trace's length; or a place, and what was expected there; or the place of what has no room in the trace; or a text
-// that is too long.
-#[derive(Clone, Copy)]
-pub enum Answer {
-    Spelt { length: usize },
+// Why a text spells no trace: a place, and what was expected there; or the place of what has no room in the trace; or a
+// text that is too long.
+#[derive(Clone, Copy, Debug, PartialEq, Eq)]
+pub enum Fault {
     Wrong { place: Place, expected: Next },
     Full { place: Place },
     Long,
@@ -34,14 +33,15 @@ fn next_place(place: Place, c: u8) -> Place
     ensures { result ≡ next_place place c }
 {
     if c == b'\n' {
-        return Place {
+        Place {
             line: place.line + 1,
             column: 1,
-        };
-    }
-    Place {
-        line: place.line,
-        column: place.column + 1,
+        }
+    } else {
+        Place {
+            line: place.line,
+            column: place.column + 1,
+        }
     }
 }
 
@@ -52,10 +52,8 @@ fn place_behind(front: &[u8]) -> Place
     ensures { result ≡ place_from 1 1 front.now }
 {
     let mut place = Place { line: 1, column: 1 };
-    let mut i = 0;
-    while i < front.len() {
-        place = next_place(place, front[i]);
-        i += 1;
+    for c in front {
+        place = next_place(place, *c);
     }
     place
 }
@@ -66,56 +64,61 @@ fn place_at(text: &[u8], i: usize) -> Place
     requires { length text.now ≤ longest }
     ensures { result ≡ place_at text.now i }
 {
-    if text.len() <= i {
-        return place_behind(text);
+    place_behind(text.get(..i).unwrap_or(text))
+}
+
+// Why the reading of a text stopped, with line and column.
+fn fault_of(text: &[u8], stop: Stop) -> Fault
+    requires { length text.now ≤ longest }
+    ensures { result ≡ fault_of text.now stop }
+{
+    match stop {
+        Stop::Wrong { place, expected } => Fault::Wrong {
+            place: place_at(text, place),
+            expected,
+        },
+        Stop::Full { place } => Fault::Full {
+            place: place_at(text, place),
+        },
     }
-    place_behind(&text[..i])
 }
 
 // Bytes from a place of a slice on, as many of them as have room there.
-#[tactic(auto, using(crate::proofs::SpellTurns::copy_none, crate::proofs::SpellTurns::copy_start, crate::proofs::SpellTurns::copy_turn, crate::proofs::SpellTurns::copy_full, crate::proofs::SpellTurns::copy_end))]
+#[tactic(auto, using(crate::proofs::SpellTurns::copy_none, crate::proofs::SpellTurns::copy_part))]
 pub fn copy(out: &mut [u8], at: usize, bytes: &[u8])
     ensures { out.new ≡ sets out.old at bytes.now }
 {
     if out.len() <= at {
         return;
     }
-    let room = out.len() - at;
-    let mut i = 0;
-    while i < bytes.len() {
-        if room <= i {
-            return;
-        }
-        out[at + i] = bytes[i];
-        i += 1;
-    }
+    let n = bytes.len().min(out.len() - at);
+    let behind = at + n;
+    out[at..behind].copy_from_slice(&bytes[..n]);
 }
 
 // The trace is made in `trace`, and copied where the whole text is spelt.
-#[tactic(auto, using(crate::proofs::SpellTurns::spelt_fits, crate::proofs::SpellTurns::spelt_whole, crate::proofs::SpellTurns::wrong_whole, crate::proofs::SpellTurns::full_whole))]
-fn spell_in(text: &[u8], trace: &mut [u8], out: &mut [u8]) -> Answer
+#[tactic(auto, using(crate::proofs::SpellTurns::spelt_fits, crate::proofs::SpellTurns::spelt_whole, crate::proofs::SpellTurns::fault_whole))]
+fn spell_in(text: &[u8], trace: &mut [u8], out: &mut [u8]) -> Result<usize, Fault>
     requires text_len_bound { length text.now ≤ longest }
     requires trace_len { (length trace.old ≡ most_bytes) × (length out.old ≡ most_bytes) }
     ensures { Spells text.now out.old out.new result }
 {
     match pass(text, trace) {
-        Turn::On { here } => {
+        Ok(here) => {
             let n = here.at;
             copy(out, 0, &trace[..n]);
-            Answer::Spelt { length: n }
+            Ok(n)
         }
-        Turn::Wrong { place, expected } => Answer::Wrong {
-            place: place_at(text, place),
-            expected,
-        },
-        Turn::Full { place } => Answer::Full {
-            place: place_at(text, place),
-        },
+        Err(stop) => Err(fault_of(text, stop)),
     }
 }
 
 // The same, by way of arrays.
-fn spell_by(text: &[u8], trace: &mut [u8; MOST_BYTES], out: &mut [u8; MOST_BYTES]) -> Answer
+fn spell_by(
+    text: &[u8],
+    trace: &mut [u8; MOST_BYTES],
+    out: &mut [u8; MOST_BYTES],
+) -> Result<usize, Fault>
     requires { length text.now ≤ longest }
     ensures { Spells text.now out.old out.new result }
 {
@@ -125,11 +128,11 @@ fn spell_by(text: &[u8], trace: &mut [u8; MOST_BYTES], out: &mut [u8; MOST_BYTES
 // Puts the trace that a text spells at the front of `out`, whose rest stays, and answers its length. Where the text spells
 // none, it says why, and all of `out` stays.
 #[tactic(auto, using(crate::proofs::SpellTurns::too_long))]
-pub fn spell(text: &[u8], out: &mut [u8; MOST_BYTES]) -> Answer
+pub fn spell(text: &[u8], out: &mut [u8; MOST_BYTES]) -> Result<usize, Fault>
     ensures { Spells text.now out.old out.new result }
 {
     if LONGEST < text.len() {
-        return Answer::Long;
+        return Err(Fault::Long);
     }
     let mut trace = [0u8; MOST_BYTES];
     spell_by(text, &mut trace, out)

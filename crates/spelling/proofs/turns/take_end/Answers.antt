@@ -2,5 +2,5 @@
 use Rattle.sayings.specs.SaysLaws.{end_fits}
 use Rattle.spelling.proofs.turns.take_end.Goals as goal
 
-pub act-step-requires : goal.act-step-requires
-act-step-requires c = rw c.hear_end-said.ensures (end_fits _ _)
+pub act-requires : goal.act-requires
+act-requires c = rw c.hear_end-said.ensures (end_fits _ _)
