@@ -1,7 +1,10 @@
 -- The checks one after the other: the first that applies is given, and what passes them all is known. Assumes nothing.
-use Rattle.std.specs.Prelude.{ℕ, ◌<◌, ◌≤◌, ◌≡◌, refl, Bool, true, false, cond, not, ◌&&◌, ◌||◌, eqb, leb, ltb}
-use Rattle.std.proofs.Common.{sym, eqb-true, leb-false, ltb-false}
+use Rattle.std.specs.Prelude.{ℕ, ◌<◌, ◌≤◌, ◌≡◌, refl, Bool, true, false, cond, not, ◌&&◌, ◌||◌, List, [], ◌∷◌, eqb, leb, ltb}
+use Rattle.std.specs.List.{list_all}
+use Rattle.std.proofs.Common.{sym, ap, eqb-true, leb-false, ltb-false}
 use Rattle.std.proofs.lemmas.Bool.{eqb-false}
+use Rattle.pins.specs.Sound.{sound}
+use Rattle.pins.specs.declared.state.State.{State}
 use Rattle.board.specs.Chips.{fitted, together, serials_together}
 use Rattle.board.specs.Checks.{is_own, no_board, all_sound, checks}
 use Rattle.board.specs.declared.chips.Board.{Board}
@@ -14,6 +17,12 @@ few count h = ltb-false 8 count (second (eqb count 0) (ltb 8 count) h)
     second : (a b : Bool) → (a || b) ≡ false → b ≡ false
     second true b e = cc
     second false b e = e
+
+-- the chips one by one, as the code asks them
+pub sounds_all : (ss : List State) → list_all sound ss ≡ all_sound ss
+unfolding all_sound
+sounds_all [] = refl
+sounds_all (s ∷ ss) = ap (λ (b : Bool). sound s && b) (sounds_all ss)
 
 -- what the checks let through
 pub record Passed (b : Board) (len serials chip code : ℕ) : Type 0 where

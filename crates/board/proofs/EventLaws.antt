@@ -1,5 +1,5 @@
 -- An event on the board by its refusal: refused it leaves all, else it leaves the chips moved. Assumes nothing.
-use Rattle.std.specs.Prelude.{ℕ, zero, suc, ◌<◌, ◌≤◌, ◌≡◌, refl, Bool, true, false, cond, List, [], ◌∷◌, eqb, length, drop}
+use Rattle.std.specs.Prelude.{ℕ, zero, suc, ◌<◌, ◌≤◌, ◌≡◌, refl, Bool, true, false, cond, List, [], ◌∷◌, ◌++◌, eqb, length, take, drop}
 use Rattle.std.proofs.Common.{sym, subst, ◌∙◌, length-take-le, take_at, eq-eqb, ne_eqb}
 use Rattle.std.proofs.Math.Path.{ap}
 use Rattle.pins.specs.declared.state.State.{State}
@@ -34,6 +34,15 @@ at_refused [] k code h = refl
 at_refused (c ∷ cs) zero code h = ap (λ (d : Chip). d ∷ cs) (next_refused c code h)
 at_refused (c ∷ cs) (suc k) code h = ap (λ (ds : List Chip). c ∷ ds) (at_refused cs k code h)
 
+-- so is a board whose chip refuses; at a shared line none does
+pub moved_refused :
+    (cs : List Chip) (k code : ℕ) → eqb (cond (is_own code) (refusal_at k code cs) 0) 0 ≡ false → moved k code cs ≡ cs
+moved_refused cs k code = go (is_own code)
+  where
+    go : (t : Bool) → eqb (cond t (refusal_at k code cs) 0) 0 ≡ false → cond t (at k code cs) (every code cs) ≡ cs
+    go true h = at_refused cs k code h
+    go false h = cc
+
 -- as many chips as before
 pub many_pieces : (ss : List State) (xs ns : List ℕ) → length (pieces ss xs ns) ≡ length ss
 unfolding pieces
@@ -50,6 +59,13 @@ unfolding at
 many_at k code [] = refl
 many_at zero code (c ∷ cs) = refl
 many_at (suc k) code (c ∷ cs) = ap suc (many_at k code cs)
+
+pub many_moved : (k code : ℕ) (cs : List Chip) → length (moved k code cs) ≡ length cs
+many_moved k code cs = go (is_own code)
+  where
+    go : (t : Bool) → length (cond t (at k code cs) (every code cs)) ≡ length cs
+    go true = many_at k code cs
+    go false = many_every code cs
 
 pub many_states : (cs : List Chip) → length (states cs) ≡ length cs
 unfolding states
@@ -84,6 +100,13 @@ module _ (ns xs : List ℕ) (b : Board) (k code : ℕ) where
   pub by_none : checks b (length xs) (length ns) k code ≡ 0 → is_own code ≡ false → refusal ns xs b k code ≡ 0
   unfolding refusal
   by_none e shared = rw (e, shared)
+
+  -- (at a shared line no chip's)
+  pub by_moved :
+      checks b (length xs) (length ns) k code ≡ 0
+      → refusal ns xs b k code ≡ cond (is_own code) (refusal_at k code (chips_of b xs ns)) 0
+  unfolding refusal
+  by_moved e = rw e
 
   -- what the call promises where it is refused, and where it is not
   pub promise_refused :
@@ -142,38 +165,22 @@ module _ (ns xs : List ℕ) (b : Board) (k code r : ℕ) (told : r ≡ checks b 
     pub its_chip : is_own code ≡ true → k < b.count
     its_chip = passed.there
 
-    module _ (places : b.count ≤ length b.chips) where
-      many : length (chips_of b xs ns) ≡ b.count
-      many = many_pieces (fitted b) xs ns ∙ length-take-le b.count b.chips places
+    -- the chips have moved, and q is the refusal of the one that an own line moves, or 0
+    module _ (q : ℕ) (ys : List ℕ) (its : q ≡ cond (is_own code) (refusal_at k code (chips_of b xs ns)) 0)
+        (written : ys ≡ slice (moved k code (chips_of b xs ns))) where
+      pub way_left :
+          (so : BoardSo) (ss : List State) → b.count ≤ length b.chips → q ≡ 0 → ss ≡ states (moved k code (chips_of b xs ns))
+          → so ≡ board_so (take b.count (ss ++ drop b.count b.chips))
+          → BoardPromise ns xs b k code (record { refusal = q; so = so; board = record { count = b.count; chips = ss ++ drop b.count b.chips } }) ys
+      way_left so ss places z left p =
+          promise_left ns xs b k code q so (record { count = b.count; chips = ss ++ drop b.count b.chips }) ys (moved k code (chips_of b xs ns))
+          z (by_moved ns xs b k code none ∙ sym its ∙ z) refl
+          (many_moved k code (chips_of b xs ns) ∙ many_pieces (fitted b) xs ns ∙ length-take-le b.count b.chips places)
+          p (ap (λ (rest : List State). record { count = b.count; chips = rest ++ drop b.count b.chips }) left) written
 
-      pub way_shared :
-          (so : BoardSo) (after : Board) (ys : List ℕ) → is_own code ≡ false
-          → (after ≡ with_chips b (every code (chips_of b xs ns))) × (ys ≡ slice (every code (chips_of b xs ns)))
-          → so ≡ board_so (fitted after)
-          → BoardPromise ns xs b k code (record { refusal = r; so = so; board = after }) ys
-      way_shared so after ys shared left p =
-          promise_left ns xs b k code r so after ys (every code (chips_of b xs ns)) fine (by_none ns xs b k code none shared)
-          (sym (ap (λ (t : Bool). cond t (at k code (chips_of b xs ns)) (every code (chips_of b xs ns))) shared))
-          (many_every code (chips_of b xs ns) ∙ many) p left.0 left.1
-
-      -- an own line: the chip's refusal q, and what it left
-      module _ (own : is_own code ≡ true) (q : ℕ) (after : Board) (ys : List ℕ)
-          (left : (q ≡ refusal_at k code (chips_of b xs ns)) × (after ≡ with_chips b (at k code (chips_of b xs ns)))
-          × (ys ≡ slice (at k code (chips_of b xs ns)))) where
-        its : refusal ns xs b k code ≡ q
-        its = by_chip ns xs b k code none own ∙ sym left.0
-
-        pub way_own :
-            (so : BoardSo) → q ≡ 0 → so ≡ board_so (fitted after)
-            → BoardPromise ns xs b k code (record { refusal = q; so = so; board = after }) ys
-        way_own so z p =
-            promise_left ns xs b k code q so after ys (at k code (chips_of b xs ns)) z (its ∙ z)
-            (sym (ap (λ (t : Bool). cond t (at k code (chips_of b xs ns)) (every code (chips_of b xs ns))) own))
-            (many_at k code (chips_of b xs ns) ∙ many) p left.1 left.2
-
-        pub way_own_refused : (q ≡ 0 → ⊥) → BoardPromise ns xs b k code (record { refusal = q; so = Released; board = b }) ys
-        way_own_refused n =
-            promise_refused ns xs b k code q ys (sym its) n
-            (left.2
-            ∙ ap slice (at_refused (chips_of b xs ns) k code (sym (ap (λ (z : ℕ). eqb z 0) left.0) ∙ ne_eqb q 0 n))
-            ∙ slice_of (fitted b) xs ns whole_slice)
+      pub way_moved_refused : (q ≡ 0 → ⊥) → BoardPromise ns xs b k code (record { refusal = q; so = Released; board = b }) ys
+      way_moved_refused n =
+          promise_refused ns xs b k code q ys (its ∙ sym (by_moved ns xs b k code none)) n
+          (written
+          ∙ ap slice (moved_refused (chips_of b xs ns) k code (sym (ap (λ (z : ℕ). eqb z 0) its) ∙ ne_eqb q 0 n))
+          ∙ slice_of (fitted b) xs ns whole_slice)

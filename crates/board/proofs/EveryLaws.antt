@@ -1,9 +1,9 @@
 -- The loop that moves every chip, turn by turn: each chip's pieces are lent to it, and that of the slice is put back. Assumes nothing.
 use Rattle.std.specs.Prelude.{ℕ, ◌+◌, ◌-◌, ◌≤◌, ◌<◌, ◌≡◌, get_or, set}
-use Rattle.std.proofs.Common.{zero-le, le_antisymm, lt_of_lt_of_le, arith, subst, ◌∙◌, drop-drop}
+use Rattle.std.proofs.Common.{zero-le, le_antisymm, arith, subst, ◌∙◌, drop-drop, drop-set-lt}
 use Rattle.std.proofs.Math.Path.{refl, sym, ap}
 use mathlib.Core.List.{List, [], ◌∷◌, ◌++◌, append-nil, append_assoc}
-use Rattle.std.proofs.Math.ListN.{length, take, drop, length-set, take-append-drop}
+use Rattle.std.proofs.Math.ListN.{length, take, drop, length-set}
 use Rattle.std.proofs.Math.Seq.{take-length}
 use Rattle.pins.specs.declared.state.State.{State}
 use Rattle.chip.specs.Promises.{EventPromise}
@@ -14,35 +14,30 @@ use Rattle.board.specs.Chips.{piece_length, serial_length, sum, together, serial
 use Rattle.board.specs.Event.{every}
 use Rattle.board.proofs.LentLaws.{lent, told_state, told_array}
 use Rattle.board.proofs.PieceLaws.{part_length, put_length, put_take, put_drop}
-use Rattle.board.proofs.WalkLaws.{rest, rest_next, rest_none, place_next, none_added, added, all_added}
-use Rattle.board.specs.declared.chips.Board.{Board}
+use Rattle.board.proofs.WalkLaws.{rest_next, rest_none, put_next, none_added, added, all_added}
 
 -- "A shared line moves every chip": at chip i those before it have moved, it and those behind it are as they were, and what
 -- comes of it all is fixed
-pub record Going (code : ℕ) (b : Board) (ns xs₀ : List ℕ) (n : ℕ) (after : Board) (xs : List ℕ) (start from i : ℕ) : Type 0 where
-  pub inside : i ≤ n
-  pub places : n ≤ length b.chips
-  pub count : after.count ≡ b.count
-  pub wide : length after.chips ≡ length b.chips
-  pub long : start + together (rest i n b.chips) ≡ length xs
-  pub own : from + serials_together (rest i n b.chips) ≡ length ns
+pub record Going (code : ℕ) (ss₀ : List State) (ns xs₀ : List ℕ) (ss : List State) (xs : List ℕ) (start from i : ℕ) : Type 0 where
+  pub inside : i ≤ length ss
+  pub wide : length ss ≡ length ss₀
+  pub long : start + together (drop i ss) ≡ length xs
+  pub own : from + serials_together (drop i ss) ≡ length ns
   pub kept : length xs ≡ length xs₀
   pub chips :
-      take i after.chips ++ (states (every code (pieces (rest i n b.chips) (drop start xs) (drop from ns))) ++ drop n after.chips)
-      ≡ states (every code (pieces (rest 0 n b.chips) xs₀ ns)) ++ drop n b.chips
+      take i ss ++ states (every code (pieces (drop i ss) (drop start xs) (drop from ns)))
+      ≡ states (every code (pieces ss₀ xs₀ ns))
   pub bytes :
-      take start xs ++ slice (every code (pieces (rest i n b.chips) (drop start xs) (drop from ns)))
-      ≡ slice (every code (pieces (rest 0 n b.chips) xs₀ ns))
+      take start xs ++ slice (every code (pieces (drop i ss) (drop start xs) (drop from ns)))
+      ≡ slice (every code (pieces ss₀ xs₀ ns))
 
-module _ (code : ℕ) (b : Board) (ns xs₀ : List ℕ) (n : ℕ) where
+module _ (code : ℕ) (ss₀ : List State) (ns xs₀ : List ℕ) where
   pub going_starts :
-      n ≤ length b.chips → together (rest 0 n b.chips) ≡ length xs₀ → serials_together (rest 0 n b.chips) ≡ length ns
-      → Going code b ns xs₀ n b xs₀ 0 0 0
-  going_starts h e o =
+      together ss₀ ≡ length xs₀ → serials_together ss₀ ≡ length ns
+      → Going code ss₀ ns xs₀ ss₀ xs₀ 0 0 0
+  going_starts e o =
       record {
         inside = zero-le;
-        places = h;
-        count = refl;
         wide = refl;
         long = none_added _ ∙ e;
         own = none_added _ ∙ o;
@@ -51,42 +46,42 @@ module _ (code : ℕ) (b : Board) (ns xs₀ : List ℕ) (n : ℕ) where
         bytes = refl;
       }
 
-  module _ (after : Board) (xs : List ℕ) (start from i : ℕ) (g : Going code b ns xs₀ n after xs start from i) where
-    C : List State
-    C = after.chips
-
+  module _ (ss : List State) (xs : List ℕ) (start from i : ℕ) (g : Going code ss₀ ns xs₀ ss xs start from i) where
     -- past the last chip
-    module _ (h : n ≤ i) where
-      none : rest i n b.chips ≡ []
-      none = rest_none b.chips n g.places i g.inside h
+    module _ (last : length ss₀ ≤ i) where
+      past : length ss ≤ i
+      past = subst (λ (k : ℕ). k ≤ i) (sym g.wide) last
 
-      all_moved : C ≡ states (every code (pieces (rest 0 n b.chips) xs₀ ns)) ++ drop n b.chips
-      unfolding C states every pieces
+      none : drop i ss ≡ []
+      none = rest_none ss i g.inside past
+
+      all_moved : ss ≡ states (every code (pieces ss₀ xs₀ ns))
+      unfolding states every pieces
       all_moved =
-          sym (ap (λ (k : ℕ). take k C ++ drop n C) (le_antisymm g.inside h) ∙ take-append-drop n C)
-          ∙ sym (ap (λ (ss : List State). take i C ++ (states (every code (pieces ss (drop start xs) (drop from ns))) ++ drop n C)) none)
+          sym (append-nil (take i ss) ∙ ap (λ (k : ℕ). take k ss) (le_antisymm g.inside past) ∙ take-length ss)
+          ∙ sym (ap (λ (more : List State). take i ss ++ states (every code (pieces more (drop start xs) (drop from ns)))) none)
           ∙ g.chips
 
-      all_written : xs ≡ slice (every code (pieces (rest 0 n b.chips) xs₀ ns))
+      all_written : xs ≡ slice (every code (pieces ss₀ xs₀ ns))
       unfolding slice every pieces sum
       all_written =
           sym (append-nil (take start xs) ∙ ap (λ (k : ℕ). take k xs) full ∙ take-length xs)
-          ∙ sym (ap (λ (ss : List State). take start xs ++ slice (every code (pieces ss (drop start xs) (drop from ns)))) none)
+          ∙ sym (ap (λ (more : List State). take start xs ++ slice (every code (pieces more (drop start xs) (drop from ns)))) none)
           ∙ g.bytes
         where
           full : start ≡ length xs
-          full = all_added start (length xs) (sym (ap (λ (ss : List State). start + together ss) none) ∙ g.long)
+          full = all_added start (length xs) (sym (ap (λ (more : List State). start + together more) none) ∙ g.long)
 
-      pub going_ends :
-          (after ≡ record { count = b.count; chips = states (every code (pieces (take n b.chips) xs₀ ns)) ++ drop n b.chips })
-          × (xs ≡ slice (every code (pieces (take n b.chips) xs₀ ns)))
-      unfolding C
-      going_ends = (λ j. record { count = g.count j; chips = all_moved j }, all_written)
+      pub going_ends : (ss ≡ states (every code (pieces ss₀ xs₀ ns))) × (xs ≡ slice (every code (pieces ss₀ xs₀ ns)))
+      going_ends = (all_moved, all_written)
 
     -- one turn
-    module _ (d : State) (h : i < n) where
+    module _ (d : State) (more_come : i < length ss₀) where
+      h : i < length ss
+      h = subst (λ (k : ℕ). i < k) (sym g.wide) more_come
+
       abbrev s : State
-      s = get_or b.chips i d
+      s = get_or ss i d
 
       abbrev p : ℕ
       p = piece_length s.part
@@ -95,18 +90,18 @@ module _ (code : ℕ) (b : Board) (ns xs₀ : List ℕ) (n : ℕ) where
       q = serial_length s.part
 
       abbrev more : List State
-      more = rest (i + 1) n b.chips
+      more = drop (i + 1) ss
 
-      on : rest i n b.chips ≡ s ∷ more
-      on = rest_next b.chips n g.places i d h
+      on : drop i ss ≡ s ∷ more
+      on = rest_next ss i d h
 
       long : start + (p + together more) ≡ length xs
       unfolding sum
-      long = sym (ap (λ (ss : List State). start + together ss) on) ∙ g.long
+      long = sym (ap (λ (rest : List State). start + together rest) on) ∙ g.long
 
       own : from + (q + serials_together more) ≡ length ns
       unfolding sum
-      own = sym (ap (λ (ss : List State). from + serials_together ss) on) ∙ g.own
+      own = sym (ap (λ (rest : List State). from + serials_together rest) on) ∙ g.own
 
       inner : (a p t n : ℕ) → a + (p + t) ≡ n → a + p ≤ n
       inner a p t n e = omega (arith, e)
@@ -130,45 +125,50 @@ module _ (code : ℕ) (b : Board) (ns xs₀ : List ℕ) (n : ℕ) where
         beyond_own : drop (from + q) ns ≡ drop q (drop from ns)
         beyond_own = sym (drop-drop q from ns)
 
+        behind : drop (i + 1) (set ss i t) ≡ more
+        behind = drop-set-lt (i + 1) ss i t (omega arith)
+
         moved : List State
         moved = states (every code (pieces more (drop p (drop start xs)) (drop q (drop from ns))))
 
         moved_on_lem :
-            take (i + 1) (set C i t) ++ (states (every code (pieces more (drop (start + p) xs') (drop (from + q) ns))) ++ drop n (set C i t))
-            ≡ states (every code (pieces (rest 0 n b.chips) xs₀ ns)) ++ drop n b.chips
-        unfolding C moved states every pieces
+            take (i + 1) (set ss i t) ++ states (every code (pieces (drop (i + 1) (set ss i t)) (drop (start + p) xs') (drop (from + q) ns)))
+            ≡ states (every code (pieces ss₀ xs₀ ns))
+        unfolding moved states every pieces
         moved_on_lem =
-            (λ j. take (i + 1) (set C i t) ++ (states (every code (pieces more (beyond j) (beyond_own j))) ++ drop n (set C i t)))
-            ∙ place_next C moved n i t h (lt_of_lt_of_le h (subst (λ (k : ℕ). n ≤ k) (sym g.wide) g.places))
-            ∙ ap (λ (u : State). take i C ++ (u ∷ (moved ++ drop n C))) (sym et)
-            ∙ sym (ap (λ (ss : List State). take i C ++ (states (every code (pieces ss (drop start xs) (drop from ns))) ++ drop n C)) on)
+            (λ j. take (i + 1) (set ss i t) ++ states (every code (pieces (behind j) (beyond j) (beyond_own j))))
+            ∙ put_next ss moved i t h
+            ∙ ap (λ (u : State). take i ss ++ (u ∷ moved)) (sym et)
+            ∙ sym (ap (λ (rest : List State). take i ss ++ states (every code (pieces rest (drop start xs) (drop from ns)))) on)
             ∙ g.chips
 
         written : List ℕ
         written = slice (every code (pieces more (drop p (drop start xs)) (drop q (drop from ns))))
 
         written_on :
-            take (start + p) xs' ++ slice (every code (pieces more (drop (start + p) xs') (drop (from + q) ns)))
-            ≡ slice (every code (pieces (rest 0 n b.chips) xs₀ ns))
+            take (start + p) xs' ++ slice (every code (pieces (drop (i + 1) (set ss i t)) (drop (start + p) xs') (drop (from + q) ns)))
+            ≡ slice (every code (pieces ss₀ xs₀ ns))
         unfolding written slice every pieces
         written_on =
-            (λ j. take (start + p) xs' ++ slice (every code (pieces more (beyond j) (beyond_own j))))
+            (λ j. take (start + p) xs' ++ slice (every code (pieces (behind j) (beyond j) (beyond_own j))))
             ∙ ap (λ (front : List ℕ). front ++ written) (put_take xs ys start p fits same)
             ∙ append_assoc (take start xs) ys written
             ∙ ap (λ (u : List ℕ). take start xs ++ (u ++ written)) (sym ey)
-            ∙ sym (ap (λ (ss : List State). take start xs ++ slice (every code (pieces ss (drop start xs) (drop from ns)))) on)
+            ∙ sym (ap (λ (rest : List State). take start xs ++ slice (every code (pieces rest (drop start xs) (drop from ns)))) on)
             ∙ g.bytes
 
-        going_next : Going code b ns xs₀ n (record { count = after.count; chips = set after.chips i t }) xs' (start + p) (from + q) (i + 1)
-        unfolding C
+        going_next : Going code ss₀ ns xs₀ (set ss i t) xs' (start + p) (from + q) (i + 1)
         going_next =
             record {
-              inside = omega (arith, h);
-              places = g.places;
-              count = g.count;
-              wide = length-set after.chips i t ∙ g.wide;
-              long = added start p (together more) (length xs) p refl long ∙ sym (put_length xs ys start p fits same);
-              own = added from q (serials_together more) (length ns) q refl own;
+              inside = subst (λ (k : ℕ). i + 1 ≤ k) (sym (length-set ss i t)) (omega (arith, h));
+              wide = length-set ss i t ∙ g.wide;
+              long =
+                  ap (λ (rest : List State). start + p + together rest) behind
+                  ∙ added start p (together more) (length xs) p refl long
+                  ∙ sym (put_length xs ys start p fits same);
+              own =
+                  ap (λ (rest : List State). from + q + serials_together rest) behind
+                  ∙ added from q (serials_together more) (length ns) q refl own;
               kept = put_length xs ys start p fits same ∙ g.kept;
               chips = moved_on_lem;
               bytes = written_on;
@@ -184,8 +184,7 @@ module _ (code : ℕ) (b : Board) (ns xs₀ : List ℕ) (n : ℕ) where
       module _ (m l : ℕ) (e : m ≡ p) (o : l ≡ q) (r : Answer) (ys : List ℕ) where
         abbrev Next : ℕ → ℕ → ℕ → Type 0
         Next k m l =
-            Going code b ns xs₀ n (record { count = after.count; chips = set after.chips i r.state })
-            (take start xs ++ (ys ++ drop k (drop start xs))) (start + m) (from + l) (i + 1)
+            Going code ss₀ ns xs₀ (set ss i r.state) (take start xs ++ (ys ++ drop k (drop start xs))) (start + m) (from + l) (i + 1)
 
         back : (a m p : ℕ) → m ≡ p → a + m - a ≡ p
         back a m p e = omega (arith, e)

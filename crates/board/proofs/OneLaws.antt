@@ -1,11 +1,10 @@
 -- The one chip that an own line moves: its pieces are lent to it, that of the slice is put back, all else stays. Assumes nothing.
 use Prim.Native.Nat.{ℕ, zero, suc, ◌+◌, ◌-◌, ◌≤◌, ◌<◌}
-use Rattle.std.proofs.Common.{arith, subst, ◌∙◌, take-append-drop, length-take-le, take-add, drop-drop, drop-set-lt, get_or-take, take-take}
+use Rattle.std.proofs.Common.{arith, subst, ◌∙◌, take-add, drop-drop}
 use Rattle.std.specs.Prelude.{◌≡◌, length}
 use Rattle.std.proofs.Math.Path.{refl, sym, ap}
 use mathlib.Core.List.{List, [], ◌∷◌, ◌++◌, append_assoc}
 use Rattle.std.proofs.Math.ListN.{take, drop, get_or, set}
-use Rattle.std.proofs.Math.Seq.{take-set-lt}
 use Rattle.std.proofs.lemmas.Bool.{eqb-false}
 use Rattle.pins.specs.declared.state.State.{State}
 use Rattle.chip.specs.Answers.{Paper}
@@ -105,40 +104,24 @@ module _ (code : ℕ) (d : State) where
       its : Chip
       its = chip_at ss (drop p xs) (ms s ss xs ns) k
 
--- as the code has it: among the first n places
-module _ (d : State) (L : List State) (n k : ℕ) (places : n ≤ length L) (h : k < n) where
+-- as the code has it
+module _ (d : State) (L : List State) (k : ℕ) (h : k < length L) where
   abbrev own : State
   own = get_or L k d
 
-  there : k < length (take n L)
-  there = subst (λ (m : ℕ). k < m) (sym (length-take-le n L places)) h
-
-  the_state : get_or (take n L) k d ≡ own
-  the_state = get_or-take n L k d h
-
   -- a piece, of the slice or of the serials, begins at start and ends at start + m
   module _ (f : State → ℕ) (start m : ℕ) (p : start ≡ sum f (take k L)) (q : m ≡ f own) where
-    begins : sum f (take k (take n L)) ≡ start
-    begins = ap (sum f) (take-take k n L (omega (arith, h))) ∙ sym p
-
     lasts : f own ≡ start + m - start
     lasts = back start m (f own) q
       where
         back : (a m p : ℕ) → m ≡ p → p ≡ a + m - a
         back a m p e = omega (arith, e)
 
-    pub one_inside : (len : ℕ) → sum f (take n L) ≡ len → start + m ≤ len
+    pub one_inside : (len : ℕ) → sum f L ≡ len → start + m ≤ len
     one_inside len long =
         subst (λ (t : ℕ). start + m ≤ t) long
-        (subst (λ (t : ℕ). t + m ≤ sum f (take n L)) begins
-        (subst (λ (t : ℕ). sum f (take k (take n L)) + t ≤ sum f (take n L)) (ap f the_state ∙ sym q) (piece_inside f (take n L) k d there)))
-
-  -- the places behind the chips stay
-  set_there : (t : State) → set (take n L) k t ++ drop n L ≡ set L k t
-  set_there t =
-      ap (λ (front : List State). front ++ drop n L) (sym (take-set-lt n L k t h))
-      ∙ ap (λ (back : List State). take n (set L k t) ++ back) (sym (drop-set-lt n L k t h))
-      ∙ take-append-drop n (set L k t)
+        (subst (λ (t : ℕ). t + m ≤ sum f L) (sym p)
+        (subst (λ (t : ℕ). sum f (take k L) + t ≤ sum f L) (sym q) (piece_inside f L k d h)))
 
   module _ (code : ℕ) (xs ns : List ℕ) (start m from l : ℕ)
       (p : start ≡ together (take k L)) (q : m ≡ piece_length own.part)
@@ -146,36 +129,29 @@ module _ (d : State) (L : List State) (n k : ℕ) (places : n ≤ length L) (h :
     abbrev its : Chip
     its = lent own xs start (start + m - start) ns from (from + l - from)
 
-    same_chip : chip_at code d (take n L) xs ns k ≡ its
-    same_chip =
-        ap (λ (t : State). lent t xs (together (take k (take n L))) (piece_length t.part) ns (serials_together (take k (take n L))) (serial_length t.part))
-        the_state
-        ∙ (λ i. lent own xs (begins array start m p q i) (lasts array start m p q i) ns (begins serial from l o u i) (lasts serial from l o u i))
+    same_chip : chip_at code d L xs ns k ≡ its
+    same_chip = λ i. lent own xs (sym p i) (lasts array start m p q i) ns (sym o i) (lasts serial from l o u i)
 
     module _ (r : Answer) (ys : List ℕ) (told : EventPromise its.serial its.array own code r ys) where
-      pub one_refused : r.refusal ≡ refusal_at k code (pieces (take n L) xs ns)
+      pub one_refused : r.refusal ≡ refusal_at k code (pieces L xs ns)
       one_refused =
           ap (λ (a : Paper). a.refusal) told.0
           ∙ sym (ap (λ (c : Chip). (chip.event c.serial c.array c.state code).refusal) same_chip)
-          ∙ sym (one_refusal code d (take n L) xs ns k there)
+          ∙ sym (one_refusal code d L xs ns k h)
 
-      pub one_moved : set L k r.state ≡ states (at k code (pieces (take n L) xs ns)) ++ drop n L
+      pub one_moved : set L k r.state ≡ states (at k code (pieces L xs ns))
       one_moved =
-          sym (set_there r.state)
-          ∙ ap (λ (t : State). set (take n L) k t ++ drop n L)
+          ap (λ (t : State). set L k t)
           (sym (told_state its code r ys told) ∙ sym (ap (λ (c : Chip). (next c code).state) same_chip))
-          ∙ ap (λ (front : List State). front ++ drop n L) (sym (one_state code d (take n L) xs ns k there))
+          ∙ sym (one_state code d L xs ns k h)
 
       pub one_written :
-          together (take n L) ≡ length xs
-          → take start xs ++ (ys ++ drop (start + m - start) (drop start xs)) ≡ slice (at k code (pieces (take n L) xs ns))
+          together L ≡ length xs
+          → take start xs ++ (ys ++ drop (start + m - start) (drop start xs)) ≡ slice (at k code (pieces L xs ns))
       one_written long =
           ap (λ (zs : List ℕ). take start xs ++ (zs ++ drop (start + m - start) (drop start xs)))
           (sym (told_array its code r ys told) ∙ sym (ap (λ (c : Chip). (next c code).array) same_chip))
           ∙ sym
-          (λ i. take (begins array start m p q i) xs
-          ++ ((next (chip_at code d (take n L) xs ns k) code).array ++ drop (size i) (drop (begins array start m p q i) xs)))
-          ∙ sym (one_bytes code d (take n L) xs ns k there long)
-        where
-          size : piece_length (get_or (take n L) k d).part ≡ start + m - start
-          size = ap (λ (t : State). piece_length t.part) the_state ∙ lasts array start m p q
+          (λ i. take (sym p i) xs
+          ++ ((next (chip_at code d L xs ns k) code).array ++ drop (lasts array start m p q i) (drop (sym p i) xs)))
+          ∙ sym (one_bytes code d L xs ns k h long)

@@ -1,6 +1,7 @@
 -- The loop's SO is the line's: one driver's level until a second one comes, then fight. And the numbers say all. Assumes
 -- nothing.
-use Rattle.std.specs.Prelude.{ℕ, ◌+◌, ◌<◌, ◌≤◌, cond, List, [], ◌∷◌, ◌≡◌, refl, eqb, length, get_or}
+use Rattle.std.specs.Prelude.{ℕ, ◌+◌, ◌<◌, cond, List, [], ◌∷◌, ◌≡◌, refl, eqb, length, get_or, drop}
+use Rattle.std.specs.List.{fold}
 use Rattle.std.proofs.Common.{sym, ◌∙◌}
 use Rattle.std.proofs.Math.Path.{ap}
 use Rattle.select.specs.declared.notes.Level.{Level}
@@ -9,7 +10,7 @@ use Rattle.pins.specs.Levels.{so_level}
 use Rattle.pins.specs.declared.state.State.{State}
 use Rattle.board.specs.So.{so_number, driven, line, levels, board_so}
 use Rattle.board.specs.Loop.{joined, joined_all}
-use Rattle.board.proofs.WalkLaws.{rest, walk_next}
+use Rattle.board.proofs.WalkLaws.{walk_next}
 use Rattle.board.specs.declared.so.BoardSo.{BoardSo}
 use Rattle.board.specs.declared.so.BoardSo.TheVariants.{Low, High, Released, Fight}
 
@@ -57,14 +58,20 @@ joined_line (s ∷ ss) = go (so_level s) (joined_line ss)
     go level.High more = high ss
     go level.Released more = more
 
--- one turn of the loop
-module _ (l : List State) (n i : ℕ) (d : State) (fits : n ≤ length l) (h : i < n) where
+-- chip by chip, as the code folds them
+pub joined_fold : (so : BoardSo) (ss : List State) → fold (λ so s. joined so (so_level s)) so ss ≡ joined_all so ss
+unfolding joined_all
+joined_fold so [] = refl
+joined_fold so (s ∷ ss) = joined_fold (joined so (so_level s)) ss
+
+-- one turn
+module _ (l : List State) (i : ℕ) (d : State) (h : i < length l) where
   pub joined_next :
       (so so' w : BoardSo) (level : Level) → so' ≡ joined so level → level ≡ so_level (get_or l i d)
-      → joined_all so (rest i n l) ≡ w → joined_all so' (rest (i + 1) n l) ≡ w
+      → joined_all so (drop i l) ≡ w → joined_all so' (drop (i + 1) l) ≡ w
   unfolding joined_all
   joined_next so so' w level p q inv =
-      ap (λ (a : BoardSo). joined_all a (rest (i + 1) n l)) (p ∙ ap (joined so) q) ∙ walk_next l n fits (joined_all so) i w inv d h
+      ap (λ (a : BoardSo). joined_all a (drop (i + 1) l)) (p ∙ ap (joined so) q) ∙ walk_next l (joined_all so) i w inv d h
 
 so_of : ℕ → BoardSo
 so_of n = cond (eqb n 0) Low (cond (eqb n 1) High (cond (eqb n 2) Released Fight))

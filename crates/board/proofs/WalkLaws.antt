@@ -1,7 +1,6 @@
--- A walk over the first n places of a list: what is left of them at place i, and what holds of it from turn to turn.
--- Assumes nothing.
+-- A walk over a list: what is left of it at place i, and what holds of it from turn to turn. Assumes nothing.
 use Rattle.std.specs.Prelude.{ℕ, suc, ◌+◌, ◌<◌, ◌≤◌, ◌≡◌, Bool, true, false, ◌&&◌, List, [], ◌∷◌, ◌++◌, map, length, take, drop, get_or, set}
-use Rattle.std.proofs.Common.{le_antisymm, arith, sym, ap, subst, ◌∙◌, append_assoc, drop-cons, take-suc-set, drop-set-lt, get_or-take, length-take-le}
+use Rattle.std.proofs.Common.{le_antisymm, arith, sym, ap, subst, ◌∙◌, append_assoc, drop-cons, take-suc-set, drop-set-lt}
 use Rattle.std.proofs.lemmas.List.{length-map}
 use Rattle.std.proofs.Math.Seq.{drop-length}
 
@@ -9,41 +8,38 @@ use Rattle.std.proofs.Math.Seq.{drop-length}
 pub within : {A B : Type 0} (f : A → B) (l : List A) (n k : ℕ) → length (map f l) ≡ k → n ≤ k → n ≤ length l
 within f l n k e h = subst (λ (m : ℕ). n ≤ m) (sym e ∙ length-map l f) h
 
--- those from i on, of the first n
-abbrev pub rest : {A : Type 0} → ℕ → ℕ → List A → List A
-rest i n l = drop i (take n l)
-
 pub one_on : (k : ℕ) → suc k ≡ k + 1
 one_on k = omega arith
 
-module _ {A : Type 0} (l : List A) (n : ℕ) (fits : n ≤ length l) where
-  pub rest_next : (i : ℕ) (d : A) → i < n → rest i n l ≡ get_or l i d ∷ rest (i + 1) n l
-  rest_next i d h =
-      drop-cons (take n l) i d (subst (λ (k : ℕ). i < k) (sym (length-take-le n l fits)) h)
-      ∙ ap (λ (a : A). a ∷ rest (suc i) n l) (get_or-take n l i d h)
-      ∙ ap (λ (k : ℕ). get_or l i d ∷ rest k n l) (one_on i)
+module _ {A : Type 0} (l : List A) where
+  pub rest_next : (i : ℕ) (d : A) → i < length l → drop i l ≡ get_or l i d ∷ drop (i + 1) l
+  rest_next i d h = drop-cons l i d h ∙ ap (λ (k : ℕ). get_or l i d ∷ drop k l) (one_on i)
 
-  pub rest_none : (i : ℕ) → i ≤ n → n ≤ i → rest i n l ≡ []
-  rest_none i p q =
-      ap (λ (k : ℕ). drop k (take n l)) (le_antisymm p q ∙ sym (length-take-le n l fits)) ∙ drop-length (take n l)
+  pub rest_none : (i : ℕ) → i ≤ length l → length l ≤ i → drop i l ≡ []
+  rest_none i p q = ap (λ (k : ℕ). drop k l) (le_antisymm p q) ∙ drop-length l
 
   -- what is said of those that are left is said of the next one and those behind it; past the last one, of none
-  module _ {B : Type 0} (g : List A → B) (i : ℕ) (w : B) (inv : g (rest i n l) ≡ w) where
-    pub walk_next : (d : A) → i < n → g (get_or l i d ∷ rest (i + 1) n l) ≡ w
+  module _ {B : Type 0} (g : List A → B) (i : ℕ) (w : B) (inv : g (drop i l) ≡ w) where
+    pub walk_next : (d : A) → i < length l → g (get_or l i d ∷ drop (i + 1) l) ≡ w
     walk_next d h = sym (ap g (rest_next i d h)) ∙ inv
 
-    pub walk_none : i ≤ n → n ≤ i → g [] ≡ w
+    pub walk_none : i ≤ length l → length l ≤ i → g [] ≡ w
     walk_none p q = sym (ap g (rest_none i p q)) ∙ inv
 
 -- place i put, and those behind it still to come
+pub put_next :
+    {A : Type 0} (l more : List A) (i : ℕ) (t : A) → i < length l → take (i + 1) (set l i t) ++ more ≡ take i l ++ (t ∷ more)
+put_next {A} l more i t h =
+    ap (λ (j : ℕ). take j (set l i t) ++ more) (sym (one_on i))
+    ∙ ap (λ (q : List A). q ++ more) (take-suc-set l i t h)
+    ∙ append_assoc (take i l) (t ∷ []) more
+
+-- and those from n on, which nothing is put in
 pub place_next :
     {A : Type 0} (l more : List A) (n i : ℕ) (t : A) → i < n → i < length l
     → take (i + 1) (set l i t) ++ (more ++ drop n (set l i t)) ≡ take i l ++ (t ∷ (more ++ drop n l))
 place_next {A} l more n i t h k =
-    ap (λ (q : List A). take (i + 1) (set l i t) ++ (more ++ q)) (drop-set-lt n l i t h)
-    ∙ ap (λ (j : ℕ). take j (set l i t) ++ (more ++ drop n l)) (sym (one_on i))
-    ∙ ap (λ (q : List A). q ++ (more ++ drop n l)) (take-suc-set l i t k)
-    ∙ append_assoc (take i l) (t ∷ []) (more ++ drop n l)
+    ap (λ (q : List A). take (i + 1) (set l i t) ++ (more ++ q)) (drop-set-lt n l i t h) ∙ put_next l (more ++ drop n l) i t k
 
 -- a test of each: it goes on past one that passes, and fails at one that fails
 pub passed : (a b w : Bool) → a ≡ true → (a && b) ≡ w → b ≡ w

@@ -1,7 +1,6 @@
 // The refusals that are found before any chip moves.
-ghost use Rattle.std.specs.Prelude.{◌≡◌, ◌≤◌};
-ghost use Rattle.board.specs.Chips.{fitted};
-ghost use Rattle.board.specs.Checks.{is_own, no_board, all_sound, checks};
+ghost use Rattle.std.specs.Prelude.{◌≡◌};
+ghost use Rattle.board.specs.Checks.{is_own, no_board, checks};
 
 use crate::chips::{Board, MOST, together};
 use pins::sound::sound;
@@ -23,22 +22,6 @@ pub(crate) fn no_board(count: usize) -> bool
     (count == 0) | (MOST < count)
 }
 
-#[tactic(auto, unfolding(crate::specs::Checks::all_sound))]
-fn all_sound(board: Board) -> bool
-    requires { board.count ≤ 8 }
-    ensures { result ≡ all_sound (fitted board) }
-{
-    let count = board.count;
-    let mut i = 0;
-    while i < count {
-        if !sound(board.chips[i]) {
-            return false;
-        }
-        i += 1;
-    }
-    true
-}
-
 // 13, 14, 4, 2, 15, 5; 0 where none of them is given.
 #[tactic(auto, unfolding(crate::specs::Checks::checks))]
 pub(crate) fn checks(board: Board, len: usize, serials: usize, chip: usize, code: u64) -> u8
@@ -51,10 +34,11 @@ pub(crate) fn checks(board: Board, len: usize, serials: usize, chip: usize, code
     if is_own(code) & (count <= chip) {
         return 14;
     }
-    if !all_sound(board) {
+    let chips = &board.chips[..count];
+    if !chips.iter().all(|chip| sound(*chip)) {
         return 4;
     }
-    let whole = together(board, count);
+    let whole = together(chips);
     if len != whole.array {
         return 2;
     }

@@ -1,5 +1,5 @@
 // The board's chips, and the pieces of the lent slices that are theirs: their arrays, and their serial numbers.
-ghost use Rattle.std.specs.Prelude.{◌≡◌, ◌≤◌, take};
+ghost use Rattle.std.specs.Prelude.{◌≡◌, ◌≤◌, length};
 ghost use Rattle.board.specs.Chips.{piece_length, serial_length, serials_together, together};
 
 use parts::figures::figure_of;
@@ -25,7 +25,8 @@ pub(crate) struct Lengths {
 
 // A part's, by its number.
 pub(crate) fn part_lengths(part: u64) -> Lengths
-    ensures { (result.array ≡ piece_length part) × (result.serials ≡ serial_length part) }
+    ensures array { result.array ≡ piece_length part }
+    ensures serials { result.serials ≡ serial_length part }
 {
     let f = figure_of(part);
     Lengths {
@@ -36,25 +37,25 @@ pub(crate) fn part_lengths(part: u64) -> Lengths
 
 // Those of a chip, by its state.
 pub(crate) fn lengths_of(state: State) -> Lengths
-    ensures { (result.array ≡ piece_length state.part) × (result.serials ≡ serial_length state.part) }
+    ensures array { result.array ≡ piece_length state.part }
+    ensures serials { result.serials ≡ serial_length state.part }
 {
     part_lengths(state.part as u64)
 }
 
-// How long the pieces of the first so many chips are together: where the next one's begin.
+// How long the pieces of these chips are together.
 #[tactic(auto, unfolding(crate::specs::Chips::sum))]
-pub(crate) fn together(board: Board, count: usize) -> Lengths
-    requires { count ≤ 8 }
-    ensures { (result.array ≡ together (take count board.chips)) × (result.serials ≡ serials_together (take count board.chips)) }
+pub(crate) fn together(chips: &[State]) -> Lengths
+    requires { length chips.now ≤ 8 }
+    ensures array { result.array ≡ together chips.now }
+    ensures serials { result.serials ≡ serials_together chips.now }
 {
     let mut array = 0;
     let mut serials = 0;
-    let mut i = 0;
-    while i < count {
-        let own = lengths_of(board.chips[i]);
+    for &chip in chips {
+        let own = lengths_of(chip);
         array += own.array;
         serials += own.serials;
-        i += 1;
     }
     Lengths { array, serials }
 }

@@ -1,13 +1,16 @@
 // One event on the board.
-ghost use Rattle.std.specs.Prelude.{◌≡◌, ◌≤◌, ◌<◌, length};
-ghost use Rattle.board.specs.Chips.{fitted, pieces, serials_together, slice, together, with_chips};
-ghost use Rattle.board.specs.Event.{every, at, refusal_at};
+ghost use Rattle.std.specs.Prelude.{◌≡◌, ◌≤◌, ◌<◌, cond, length, true};
+ghost use Rattle.board.specs.Checks.{is_own};
+ghost use Rattle.board.specs.Chips.{pieces, serials_together, slice, states, together};
+ghost use Rattle.board.specs.Event.{every, at, moved, refusal_at};
 ghost use Rattle.board.specs.Promises.{BoardPromise};
+ghost use Rattle.board.specs.declared.so.BoardSo.TheVariants.{Released};
 
 use crate::checks::{checks, is_own};
 use crate::chips::{Board, lengths_of, together};
 use crate::so::{BoardSo, board_so};
 use chip::event::event as chip_event;
+use pins::state::State;
 
 // The answer to an event on the board. "No note is given".
 #[derive(Clone, Copy)]
@@ -17,61 +20,63 @@ pub struct BoardAnswer {
     pub board: Board,
 }
 
-// What one chip's event led to: its refusal, or 0, and the board.
-#[derive(Clone, Copy)]
-struct OwnMove {
-    refusal: u8,
-    board: Board,
-}
-
 // "A shared line moves every chip": each its own state, its own piece of the slice and its own serial number.
-fn move_every(board: Board, array: &mut [u8], serials: &[u8], code: u64) -> Board
-    requires { (board.count ≤ 8) × (together (fitted board) ≡ length array.old) × (serials_together (fitted board) ≡ length serials.now) }
-    ensures { (result ≡ with_chips board (every code (pieces (fitted board) array.old serials.now)))
-        × (array.new ≡ slice (every code (pieces (fitted board) array.old serials.now))) }
+fn move_every(chips: &mut [State], array: &mut [u8], serials: &[u8], code: u64)
+    requires whole_slice { together chips.old ≡ length array.old }
+    requires whole_serials { serials_together chips.old ≡ length serials.now }
+    ensures chips_after { chips.new ≡ states (every code (pieces chips.old array.old serials.now)) }
+    ensures array_after { array.new ≡ slice (every code (pieces chips.old array.old serials.now)) }
 {
-    let count = board.count;
-    let mut after = board;
     let mut start = 0;
     let mut from = 0;
-    let mut i = 0;
-    while i < count {
-        let state = board.chips[i];
-        let own = lengths_of(state);
+    for chip in chips {
+        let own = lengths_of(*chip);
         let end = start + own.array;
         let to = from + own.serials;
-        let answer = chip_event(state, &mut array[start..end], &serials[from..to], code);
-        let state = answer.state;
-        after.chips[i] = state;
+        let answer = chip_event(*chip, &mut array[start..end], &serials[from..to], code);
+        *chip = answer.state;
         start = end;
         from = to;
-        i += 1;
     }
-    after
 }
 
-// "an own line moves one chip and nothing of any other, bytes included"
-fn move_one(board: Board, array: &mut [u8], serials: &[u8], chip: usize, code: u64) -> OwnMove
-    requires { (board.count ≤ 8) × (chip < board.count)
-        × (together (fitted board) ≡ length array.old) × (serials_together (fitted board) ≡ length serials.now) }
-    ensures { (result.refusal ≡ refusal_at chip code (pieces (fitted board) array.old serials.now))
-        × (result.board ≡ with_chips board (at chip code (pieces (fitted board) array.old serials.now)))
-        × (array.new ≡ slice (at chip code (pieces (fitted board) array.old serials.now))) }
+// "an own line moves one chip and nothing of any other, bytes included". The chip's refusal, or 0.
+fn move_one(chips: &mut [State], array: &mut [u8], serials: &[u8], chip: usize, code: u64) -> u8
+    requires few { length chips.old ≤ 8 }
+    requires there { chip < length chips.old }
+    requires whole_slice { together chips.old ≡ length array.old }
+    requires whole_serials { serials_together chips.old ≡ length serials.now }
+    ensures refusal { result ≡ refusal_at chip code (pieces chips.old array.old serials.now) }
+    ensures chips_after { chips.new ≡ states (at chip code (pieces chips.old array.old serials.now)) }
+    ensures array_after { array.new ≡ slice (at chip code (pieces chips.old array.old serials.now)) }
 {
-    let state = board.chips[chip];
-    let before = together(board, chip);
+    let state = chips[chip];
+    let before = together(&chips[..chip]);
     let own = lengths_of(state);
     let start = before.array;
     let from = before.serials;
     let end = start + own.array;
     let to = from + own.serials;
     let answer = chip_event(state, &mut array[start..end], &serials[from..to], code);
-    let state = answer.state;
-    let mut after = board;
-    after.chips[chip] = state;
-    OwnMove {
-        refusal: answer.refusal,
-        board: after,
+    chips[chip] = answer.state;
+    answer.refusal
+}
+
+// Moves the chips that the line reaches: the refusal of the one that an own line moves, or 0.
+fn move_chips(chips: &mut [State], array: &mut [u8], serials: &[u8], chip: usize, code: u64) -> u8
+    requires few { length chips.old ≤ 8 }
+    requires there { is_own code ≡ true → chip < length chips.old }
+    requires whole_slice { together chips.old ≡ length array.old }
+    requires whole_serials { serials_together chips.old ≡ length serials.now }
+    ensures refusal { result ≡ cond (is_own code) (refusal_at chip code (pieces chips.old array.old serials.now)) 0 }
+    ensures chips_after { chips.new ≡ states (moved chip code (pieces chips.old array.old serials.now)) }
+    ensures array_after { array.new ≡ slice (moved chip code (pieces chips.old array.old serials.now)) }
+{
+    if is_own(code) {
+        move_one(chips, array, serials, chip, code)
+    } else {
+        move_every(chips, array, serials, code);
+        0
     }
 }
 
@@ -82,29 +87,23 @@ pub fn event(board: Board, array: &mut [u8], serials: &[u8], chip: usize, code: 
 {
     let refusal = checks(board, array.len(), serials.len(), chip, code);
     if refusal != 0 {
-        let so = BoardSo::Released;
-        return BoardAnswer { refusal, so, board };
+        return refused(refusal, board);
     }
-    if !is_own(code) {
-        let board = move_every(board, array, serials, code);
-        let so = board_so(board);
-        return BoardAnswer { refusal, so, board };
+    let count = board.count;
+    let mut chips = board.chips;
+    let refusal = move_chips(&mut chips[..count], array, serials, chip, code);
+    if refusal != 0 {
+        return refused(refusal, board);
     }
-    let moved = move_one(board, array, serials, chip, code);
-    let own = moved.refusal;
-    if own != 0 {
-        let so = BoardSo::Released;
-        return BoardAnswer {
-            refusal: own,
-            so,
-            board,
-        };
-    }
-    let board = moved.board;
-    let so = board_so(board);
-    BoardAnswer {
-        refusal: own,
-        so,
-        board,
-    }
+    let so = board_so(&chips[..count]);
+    let board = Board { count, chips };
+    BoardAnswer { refusal, so, board }
+}
+
+// "a refused event changes no chip"; "SO reads released".
+fn refused(refusal: u8, board: Board) -> BoardAnswer
+    ensures { result ≡ record { refusal = refusal; so = Released; board = board } }
+{
+    let so = BoardSo::Released;
+    BoardAnswer { refusal, so, board }
 }

@@ -1,7 +1,7 @@
 // The board's power-up.
 ghost use Rattle.std.specs.Prelude.{◌≡◌, ◌≤◌, ◌++◌, length, drop};
 ghost use Rattle.parts.specs.Figures.{in_mask};
-ghost use Rattle.board.specs.Power.{asked, all_parts, all_masked, together_asked, power_refusal, powered, power_up, spare};
+ghost use Rattle.board.specs.Power.{together_asked, power_refusal, powered, power_up, spare};
 
 use crate::checks::no_board;
 use crate::chips::{Board, MOST, part_lengths};
@@ -30,22 +30,6 @@ pub struct PoweredBoard {
     pub board: Board,
 }
 
-#[tactic(auto, unfolding(crate::specs::Power::all_parts))]
-fn all_parts(plan: Plan) -> bool
-    requires { plan.count ≤ 8 }
-    ensures { result ≡ all_parts (asked plan) }
-{
-    let count = plan.count;
-    let mut i = 0;
-    while i < count {
-        if !is_part(plan.chips[i].part) {
-            return false;
-        }
-        i += 1;
-    }
-    true
-}
-
 // Whether the kept bits are under the part's mask.
 fn in_mask(asked: Asked) -> bool
     ensures { result ≡ in_mask asked.part asked.kept }
@@ -55,75 +39,51 @@ fn in_mask(asked: Asked) -> bool
     kept & (f.kept as u64) == kept
 }
 
-#[tactic(auto, unfolding(crate::specs::Power::all_masked))]
-fn all_masked(plan: Plan) -> bool
-    requires { plan.count ≤ 8 }
-    ensures { result ≡ all_masked (asked plan) }
-{
-    let count = plan.count;
-    let mut i = 0;
-    while i < count {
-        if !in_mask(plan.chips[i]) {
-            return false;
-        }
-        i += 1;
-    }
-    true
-}
-
+// How long the pieces of the slice are together.
 #[tactic(auto, unfolding(crate::specs::Chips::sum))]
-fn together_asked(plan: Plan) -> usize
-    requires { plan.count ≤ 8 }
-    ensures { result ≡ together_asked (asked plan) }
+fn together_asked(chips: &[Asked]) -> usize
+    requires { length chips.now ≤ 8 }
+    ensures { result ≡ together_asked chips.now }
 {
-    let count = plan.count;
-    let mut sum = 0;
-    let mut i = 0;
-    while i < count {
-        let own = part_lengths(plan.chips[i].part);
-        sum += own.array;
-        i += 1;
-    }
-    sum
+    chips
+        .iter()
+        .map(|asked| part_lengths(asked.part).array)
+        .sum()
 }
 
 #[tactic(auto, unfolding(crate::specs::Power::power_refusal))]
 fn power_refusal(plan: Plan, len: usize) -> u8
     ensures { result ≡ power_refusal plan len }
 {
-    if no_board(plan.count) {
+    let count = plan.count;
+    if no_board(count) {
         return 13;
     }
-    if !all_parts(plan) {
+    let chips = &plan.chips[..count];
+    if !chips.iter().all(|asked| is_part(asked.part)) {
         return 1;
     }
-    if len != together_asked(plan) {
+    if len != together_asked(chips) {
         return 2;
     }
-    if !all_masked(plan) {
+    if !chips.iter().all(|asked| in_mask(*asked)) {
         return 3;
     }
     0
 }
 
 // Each chip's own power-up, over its own piece of the slice.
-fn power_each(plan: Plan, array: &[u8]) -> [State; MOST]
-    requires { (plan.count ≤ 8) × (together_asked (asked plan) ≡ length array.now) }
-    ensures { result ≡ powered (asked plan) array.now ++ drop plan.count spare }
+fn power_each(asked: &[Asked], array: &[u8]) -> [State; MOST]
+    requires few { length asked.now ≤ 8 }
+    requires whole_slice { together_asked asked.now ≡ length array.now }
+    ensures { result ≡ powered asked.now array.now ++ drop (length asked.now) spare }
 {
-    let count = plan.count;
     let mut chips = [State::at_rest(1, 0, false); MOST];
     let mut start = 0;
-    let mut i = 0;
-    while i < count {
-        let one = plan.chips[i];
-        let own = part_lengths(one.part);
-        let end = start + own.array;
-        let powered = chip_power_up(one.part, one.kept, &array[start..end]);
-        let state = powered.state;
-        chips[i] = state;
+    for (i, one) in asked.iter().enumerate() {
+        let end = start + part_lengths(one.part).array;
+        chips[i] = chip_power_up(one.part, one.kept, &array[start..end]).state;
         start = end;
-        i += 1;
     }
     chips
 }
@@ -139,10 +99,8 @@ pub fn power_up(plan: Plan, array: &[u8]) -> PoweredBoard
         let board = Board { count: 0, chips };
         return PoweredBoard { refusal, board };
     }
-    let chips = power_each(plan, array);
-    let board = Board {
-        count: plan.count,
-        chips,
-    };
+    let count = plan.count;
+    let chips = power_each(&plan.chips[..count], array);
+    let board = Board { count, chips };
     PoweredBoard { refusal, board }
 }

@@ -1,10 +1,9 @@
 // The board's SO.
-ghost use Rattle.std.specs.Prelude.{◌≡◌, ◌≤◌};
-ghost use Rattle.board.specs.Chips.{fitted};
+ghost use Rattle.std.specs.Prelude.{◌≡◌};
 ghost use Rattle.board.specs.So.{board_so};
 ghost use Rattle.board.specs.Loop.{driven_by, joined};
 
-use crate::chips::Board;
+use pins::state::State;
 use select::notes::Level;
 
 // "released, the one driver's level, or "fight" where two or more drive"
@@ -22,9 +21,7 @@ fn driven(so: BoardSo, own: BoardSo) -> BoardSo
 {
     match so {
         BoardSo::Released => own,
-        BoardSo::Low => BoardSo::Fight,
-        BoardSo::High => BoardSo::Fight,
-        BoardSo::Fight => BoardSo::Fight,
+        BoardSo::Low | BoardSo::High | BoardSo::Fight => BoardSo::Fight,
     }
 }
 
@@ -39,18 +36,11 @@ fn joined(so: BoardSo, level: Level) -> BoardSo
     }
 }
 
-#[tactic(auto, unfolding(crate::specs::Loop::joined_all))]
-pub(crate) fn board_so(board: Board) -> BoardSo
-    requires { board.count ≤ 8 }
-    ensures { result ≡ board_so (fitted board) }
+// What it is with all of them on it.
+pub(crate) fn board_so(chips: &[State]) -> BoardSo
+    ensures { result ≡ board_so chips.now }
 {
-    let count = board.count;
-    let mut so = BoardSo::Released;
-    let mut i = 0;
-    while i < count {
-        let chip = board.chips[i];
-        so = joined(so, chip.so());
-        i += 1;
-    }
-    so
+    chips
+        .iter()
+        .fold(BoardSo::Released, |so, chip| joined(so, chip.so()))
 }

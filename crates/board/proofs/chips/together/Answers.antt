@@ -8,26 +8,23 @@ use Rattle.board.proofs.chips.together.Goals as goal
 
 pub overflow_add-array : goal.overflow_add-array
 overflow_add-array c =
-    record {
-      fits = omega (arith, still_small _ c.loop-i.i _ _ (largest _) c.loop-i.invariant.3 c.lengths_of-own.ensures.0);
-    }
+    let l = c.loop-chip in
+    record { fits = omega (arith, still_small _ l.chip-index _ _ (largest _) l.invariant.array_small c.lengths_of-own.ensures.array) }
 
 pub overflow_add-serials : goal.overflow_add-serials
 overflow_add-serials c =
-    record {
-      fits = omega (arith, still_small _ c.loop-i.i _ _ (serial_short _) c.loop-i.invariant.5 c.lengths_of-own.ensures.1);
-    }
+    let l = c.loop-chip in
+    record { fits = omega (arith, still_small _ l.chip-index _ _ (serial_short _) l.invariant.serials_small c.lengths_of-own.ensures.serials) }
 
-pub loop-i-preserved : goal.loop-i-preserved
+pub loop-chip-preserved : goal.loop-chip-preserved
 unfolding sum
-loop-i-preserved c =
-    let t = c.loop-i-test.true in
-    let l = c.loop-i in
-    let own = c.lengths_of-own.ensures in (
-      omega arith,
-      l.invariant.1,
-      added _ _ _ _ _ own.0 (walk_next _ _ l.invariant.1 (λ ss. l.array + together ss) l.i _ l.invariant.2 _ t),
-      still_small _ _ _ _ (largest _) l.invariant.3 own.0,
-      added _ _ _ _ _ own.1 (walk_next _ _ l.invariant.1 (λ ss. l.serials + serials_together ss) l.i _ l.invariant.4 _ t),
-      still_small _ _ _ _ (serial_short _) l.invariant.5 own.1,
-    )
+loop-chip-preserved c =
+    let l = c.loop-chip in
+    let t = c.loop-chip-test.true in
+    let own = c.lengths_of-own.ensures in
+    record {
+      array = added _ _ _ _ _ own.array (walk_next _ (λ ss. l.array + together ss) l.chip-index _ l.invariant.array _ t);
+      serials = added _ _ _ _ _ own.serials (walk_next _ (λ ss. l.serials + serials_together ss) l.chip-index _ l.invariant.serials _ t);
+      array_small = still_small _ _ _ _ (largest _) l.invariant.array_small own.array;
+      serials_small = still_small _ _ _ _ (serial_short _) l.invariant.serials_small own.serials;
+    }

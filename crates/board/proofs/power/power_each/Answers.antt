@@ -6,17 +6,15 @@ use Rattle.board.proofs.power.power_each.Goals as goal
 
 pub overflow_add-end : goal.overflow_add-end
 overflow_add-end c =
-    record {
-      fits = omega (arith, asked_inside _ _ _ _ _ _ c.loop-i.invariant _ c.loop-i-test.true _ c.part_lengths-own.ensures.0);
-    }
+    record { fits = omega (arith, asked_inside _ _ _ _ _ c.loop-i.invariant _ c.loop-i-test.true _ c.part_lengths.ensures.array) }
 
 pub slice_bounds-power_up-end : goal.slice_bounds-power_up-end
-slice_bounds-power_up-end c = asked_inside _ _ _ _ _ _ c.loop-i.invariant _ c.loop-i-test.true _ c.part_lengths-own.ensures.0
+slice_bounds-power_up-end c = asked_inside _ _ _ _ _ c.loop-i.invariant _ c.loop-i-test.true _ c.part_lengths.ensures.array
 
 pub loop-i-preserved : goal.loop-i-preserved
 loop-i-preserved c =
-    powering_on _ _ _ _ _ _ c.loop-i.invariant _ c.loop-i-test.true _ c.part_lengths-own.ensures.0 _
-    (ap (λ (q : Powered). q.state) c.power_up-powered.ensures)
+    powering_on _ _ _ _ _ c.loop-i.invariant _ c.loop-i-test.true _ c.part_lengths.ensures.array _
+    (ap (λ (q : Powered). q.state) c.power_up.ensures)
 
 pub returns : goal.returns
-returns c = powering_ends _ _ _ _ _ _ c.loop-i.invariant c.loop-i-test.false
+returns c = powering_ends _ _ _ _ _ c.loop-i.invariant c.loop-i-test.false

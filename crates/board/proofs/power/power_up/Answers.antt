@@ -3,7 +3,8 @@ use Rattle.std.proofs.Common.{sym, ◌∙◌}
 use Rattle.board.proofs.PowerLaws.{power_allowed}
 use Rattle.board.proofs.power.power_up.Goals as goal
 
-pub power_each-chips-requires : goal.power_each-chips-requires
-power_each-chips-requires c =
-    let passed = power_allowed _ _ (sym c.power_refusal-refusal.ensures ∙ c.if-refusal-ne0.false) in
-    (passed.few, passed.long)
+pub shared_ref_as_front-power_each : goal.shared_ref_as_front-power_each
+shared_ref_as_front-power_each c = (power_allowed _ _ (sym c.power_refusal-refusal.ensures ∙ c.if-refusal-ne0.false)).few
+
+pub power_each-chips-requires-clause-whole_slice : goal.power_each-chips-requires-clause-whole_slice
+power_each-chips-requires-clause-whole_slice c = (power_allowed _ _ (sym c.power_refusal-refusal.ensures ∙ c.if-refusal-ne0.false)).long

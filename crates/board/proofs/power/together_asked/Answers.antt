@@ -1,25 +1,25 @@
--- The sum so far and the pieces that are left are all pieces together; no piece is longer than the longest, so the sum fits.
-use Rattle.std.proofs.Common.{arith, ◌+◌}
-use Rattle.parts.specs.FigureLaws.{largest}
-use Rattle.board.specs.Chips.{sum}
-use Rattle.board.specs.Power.{together_asked}
-use Rattle.board.proofs.PieceLaws.{still_small}
-use Rattle.board.proofs.WalkLaws.{walk_next, added}
+-- The parts' lengths one by one; no piece is longer than the longest, so eight of them can be summed.
+use Rattle.std.proofs.Common.{arith, rules, sym, ◌∙◌, ◌<◌, ◌^◌, subst}
+use Rattle.std.specs.List.{sum_by}
+use Rattle.std.proofs.lemmas.Iterator.{YieldsList-from_slice, YieldsList-from_map}
+use Rattle.std.proofs.lemmas.Iterator.Consumers.{sum_by_from_yields_List, fits_by_from_yields_list}
+use Rattle.board.specs.Chips.{piece_length}
+use Rattle.board.proofs.PowerLaws.{asked_sum, asked_small}
+use Rattle.board.specs.declared.power.Asked.{Asked}
 use Rattle.board.proofs.power.together_asked.Goals as goal
 
-pub overflow_add-sum : goal.overflow_add-sum
-overflow_add-sum c =
-    record {
-      fits = omega (arith, still_small _ c.loop-i.i _ _ (largest _) c.loop-i.invariant.3 c.part_lengths-own.ensures.0);
-    }
+pub sum-requires-clause-fits : goal.sum-requires-clause-fits
+sum-requires-clause-fits c =
+    let small : sum_by (λ (a : Asked). piece_length a.part) c.args.chips.now < 2 ^ 64 =
+    omega (arith, asked_sum c.args.chips.now, asked_small c.args.chips.now, c.requires) in
+    fits_by_from_yields_list (λ (a : Asked). piece_length a.part) c.args.chips.now c.map.result _
+    (YieldsList-from_map _ (λ (a : Asked). piece_length a.part) (YieldsList-from_slice c.args.chips.now cc) c.map.ensures.closure
+    (λ x r q k. search rules))
+    small
 
-pub loop-i-preserved : goal.loop-i-preserved
-unfolding sum
-loop-i-preserved c =
-    let l = c.loop-i in
-    let own = c.part_lengths-own.ensures.0 in (
-      omega arith,
-      l.invariant.1,
-      added _ _ _ _ _ own (walk_next _ _ l.invariant.1 (λ qs. l.sum + together_asked qs) l.i _ l.invariant.2 _ c.loop-i-test.true),
-      still_small _ _ _ _ (largest _) l.invariant.3 own,
-    )
+pub returns : goal.returns
+returns c =
+    sum_by_from_yields_List (λ (a : Asked). piece_length a.part) c.args.chips.now c.map.result _ c.sum.ensures.ran
+    (YieldsList-from_map _ (λ (a : Asked). piece_length a.part) (YieldsList-from_slice c.args.chips.now cc) c.map.ensures.closure
+    (λ x r q k. search rules))
+    ∙ asked_sum c.args.chips.now

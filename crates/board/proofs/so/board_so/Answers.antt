@@ -1,14 +1,16 @@
--- SO of the chips so far, joined by those that are left, is SO of all.
-use Rattle.std.proofs.Common.{arith, zero-le}
-use Rattle.board.proofs.SoLaws.{joined_line, joined_next}
+-- The fold over the chips is SO of all.
+use Rattle.std.proofs.Common.{◌∙◌, rules}
+use Rattle.std.proofs.lemmas.Iterator.{YieldsList-from_slice}
+use Rattle.std.proofs.lemmas.Iterator.Consumers.{fold_from_yields_List}
+use Rattle.pins.specs.Levels.{so_level}
+use Rattle.board.specs.Loop.{joined}
+use Rattle.board.specs.declared.so.BoardSo.TheVariants.{Released}
+use Rattle.board.proofs.SoLaws.{joined_line, joined_fold}
 use Rattle.board.proofs.so.board_so.Goals as goal
 
-pub loop-i-init : goal.loop-i-init
-loop-i-init c = (zero-le, omega arith, joined_line _)
-
-pub loop-i-preserved : goal.loop-i-preserved
-loop-i-preserved c = (
-  omega arith,
-  c.loop-i.invariant.1,
-  joined_next _ _ _ _ c.loop-i.invariant.1 c.loop-i-test.true _ _ _ _ c.joined-so.ensures c.so.ensures c.loop-i.invariant.2,
-)
+pub returns : goal.returns
+returns c =
+    fold_from_yields_List _ (λ so s. joined so (so_level s)) Released _ c.fold.ensures.ran (YieldsList-from_slice c.args.chips.now cc)
+    (λ a x b q k. search rules)
+    ∙ joined_fold _ _
+    ∙ joined_line _
