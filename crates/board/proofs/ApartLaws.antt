@@ -1,7 +1,9 @@
 -- Chips on one board don't disturb one another. The serials, lent read only, are the same to all events. Assumes nothing.
-use Rattle.std.specs.Prelude.{ℕ, zero, suc, ◌≡◌, Bool, true, false, cond, List, [], ◌∷◌, eqb, length, get_or}
+use Rattle.std.specs.Prelude.{ℕ, zero, suc, ◌≡◌, Bool, true, false, cond, List, [], ◌∷◌, length, get_or, Option, None, is_none}
 use Rattle.std.proofs.Math.Path.{refl}
-use Rattle.std.proofs.Common.{sym, ap, ◌∙◌, eqb-true}
+use Rattle.std.proofs.Common.{sym, ap, ◌∙◌}
+use Rattle.refusals.specs.declared.refusal.Refusal.{Refusal}
+use Rattle.supply.specs.CheckedLaws.{none_given}
 use Rattle.chip.specs.Event.{first}
 use Rattle.chip.specs.Run.{Chip}
 use Rattle.board.specs.Checks.{is_own}
@@ -37,7 +39,7 @@ refusal_other (c ∷ cs) (suc j) (suc k) a b n = refusal_other cs j k a b (λ e.
 
 -- the chips after an own line's event
 own_moved :
-    (h : Held) (e : Sent) → is_own e.code ≡ true → Good h → refusal_of h e ≡ 0
+    (h : Held) (e : Sent) → is_own e.code ≡ true → Good h → refusal_of h e ≡ None
     → chips (next h e) ≡ at e.chip e.code (chips h)
 own_moved h e own g r =
     moved_chips h g e r ∙ ap (λ (t : Bool). cond t (at e.chip e.code (chips h)) (every e.code (chips h))) own
@@ -47,49 +49,49 @@ own_moved h e own g r =
 pub own_alone :
     (h : Held) (e : Sent) (j : ℕ) (d : Chip) → length h.board.chips ≡ 8 → is_own e.code ≡ true → (j ≡ e.chip → ⊥)
     → get_or (chips (next h e)) j d ≡ get_or (chips h) j d
-own_alone h e j d eight own n = go (eqb (refusal_of h e) 0) refl
+own_alone h e j d eight own n = go (is_none (refusal_of h e)) refl
   where
-    go : (t : Bool) → eqb (refusal_of h e) 0 ≡ t → get_or (chips (next h e)) j d ≡ get_or (chips h) j d
+    go : (t : Bool) → is_none (refusal_of h e) ≡ t → get_or (chips (next h e)) j d ≡ get_or (chips h) j d
     go true p =
-        ap (λ (cs : List Chip). get_or cs j d) (own_moved h e own (good_from h e eight (eqb-true _ _ p)) (eqb-true _ _ p))
+        ap (λ (cs : List Chip). get_or cs j d) (own_moved h e own (good_from h e eight (none_given _ p)) (none_given _ p))
         ∙ at_other (chips h) e.chip j e.code d n
     go false p = ap (λ (g : Held). get_or (chips g) j d) (next_stays h e p)
 
 -- a good board's refusal, by what can still be refused
 pub good_refusal :
     (g : Held) → Good g → (e : Sent)
-    → refusal_of g e ≡ first (late_checks g.board.count e.chip e.code) (cond (is_own e.code) (refusal_at e.chip e.code (chips g)) 0)
+    → refusal_of g e ≡ first (late_checks g.board.count e.chip e.code) (cond (is_own e.code) (refusal_at e.chip e.code (chips g)) None)
 unfolding refusal
 good_refusal g ok e =
-    ap (λ (n : ℕ). first n (cond (is_own e.code) (refusal_at e.chip e.code (chips g)) 0)) (good_checks g e.chip e.code ok)
+    ap (λ (n : Option Refusal). first n (cond (is_own e.code) (refusal_at e.chip e.code (chips g)) None)) (good_checks g e.chip e.code ok)
 
 -- "Own-line events of two different chips leave the same chip states and arrays and get the same refusals in either order."
 module _ (h : Held) (eight : length h.board.chips ≡ 8) where
   pub same_count : (e : Sent) → (next h e).board.count ≡ h.board.count
-  same_count e = go (eqb (refusal_of h e) 0) refl
+  same_count e = go (is_none (refusal_of h e)) refl
     where
-      go : (t : Bool) → eqb (refusal_of h e) 0 ≡ t → (next h e).board.count ≡ h.board.count
-      go true p = ap (λ (g : Held). g.board.count) (next_put h e (eqb-true _ _ p))
+      go : (t : Bool) → is_none (refusal_of h e) ≡ t → (next h e).board.count ≡ h.board.count
+      go true p = ap (λ (g : Held). g.board.count) (next_put h e (none_given _ p))
       go false p = ap (λ (g : Held). g.board.count) (next_stays h e p)
 
   -- the other chip's event doesn't change a refusal
   pub same_refusal :
       (a b : Sent) → is_own b.code ≡ true → (a.chip ≡ b.chip → ⊥) → is_own a.code ≡ true → refusal_of (next h b) a ≡ refusal_of h a
-  same_refusal a b own n own' = go (eqb (refusal_of h b) 0) refl
+  same_refusal a b own n own' = go (is_none (refusal_of h b)) refl
     where
-      go : (t : Bool) → eqb (refusal_of h b) 0 ≡ t → refusal_of (next h b) a ≡ refusal_of h a
+      go : (t : Bool) → is_none (refusal_of h b) ≡ t → refusal_of (next h b) a ≡ refusal_of h a
       go true p =
-          let g = good_from h b eight (eqb-true _ _ p) in
+          let g = good_from h b eight (none_given _ p) in
           good_refusal (next h b) (good_next h g b) a
-          ∙ ap (λ (n : ℕ). first (late_checks n a.chip a.code) (cond (is_own a.code) (refusal_at a.chip a.code (chips (next h b))) 0)) (same_count b)
-          ∙ ap (λ (r : ℕ). first (late_checks h.board.count a.chip a.code) (cond (is_own a.code) r 0))
-          (ap (refusal_at a.chip a.code) (own_moved h b own g (eqb-true _ _ p)) ∙ refusal_other (chips h) a.chip b.chip a.code b.code n)
+          ∙ ap (λ (n : ℕ). first (late_checks n a.chip a.code) (cond (is_own a.code) (refusal_at a.chip a.code (chips (next h b))) None)) (same_count b)
+          ∙ ap (λ (r : Option Refusal). first (late_checks h.board.count a.chip a.code) (cond (is_own a.code) r None))
+          (ap (refusal_at a.chip a.code) (own_moved h b own g (none_given _ p)) ∙ refusal_other (chips h) a.chip b.chip a.code b.code n)
           ∙ sym (good_refusal h g a)
       go false p = ap (λ (g : Held). refusal_of g a) (next_stays h b p)
 
   -- both accepted: each chip has moved
   both_moved :
-      (a b : Sent) → is_own a.code ≡ true → is_own b.code ≡ true → refusal_of h a ≡ 0 → refusal_of (next h a) b ≡ 0
+      (a b : Sent) → is_own a.code ≡ true → is_own b.code ≡ true → refusal_of h a ≡ None → refusal_of (next h a) b ≡ None
       → next (next h a) b ≡ put h (at b.chip b.code (at a.chip a.code (chips h)))
   both_moved a b own own' r s =
       let g = good_from h a eight r in
@@ -103,7 +105,7 @@ module _ (h : Held) (eight : length h.board.chips ≡ 8) where
       (a b : Sent) → is_own a.code ≡ true → is_own b.code ≡ true → (a.chip ≡ b.chip → ⊥)
       → (run h (a ∷ b ∷ []) ≡ run h (b ∷ a ∷ [])) × (refusal_of (next h b) a ≡ refusal_of h a) × (refusal_of (next h a) b ≡ refusal_of h b)
   unfolding run
-  either_order a b own own' n = (go (eqb (refusal_of h a) 0) (eqb (refusal_of h b) 0) refl refl, same_a, same_b)
+  either_order a b own own' n = (go (is_none (refusal_of h a)) (is_none (refusal_of h b)) refl refl, same_a, same_b)
     where
       same_a : refusal_of (next h b) a ≡ refusal_of h a
       same_a = same_refusal a b own' n own
@@ -111,12 +113,12 @@ module _ (h : Held) (eight : length h.board.chips ≡ 8) where
       same_b : refusal_of (next h a) b ≡ refusal_of h b
       same_b = same_refusal b a own (λ e. n (sym e)) own'
 
-      go : (s t : Bool) → eqb (refusal_of h a) 0 ≡ s → eqb (refusal_of h b) 0 ≡ t → next (next h a) b ≡ next (next h b) a
+      go : (s t : Bool) → is_none (refusal_of h a) ≡ s → is_none (refusal_of h b) ≡ t → next (next h a) b ≡ next (next h b) a
       go true true p q =
-          both_moved a b own own' (eqb-true _ _ p) (same_b ∙ eqb-true _ _ q)
+          both_moved a b own own' (none_given _ p) (same_b ∙ none_given _ q)
           ∙ ap (put h) (at_either (chips h) b.chip a.chip b.code a.code (λ e. n (sym e)))
-          ∙ sym (both_moved b a own' own (eqb-true _ _ q) (same_a ∙ eqb-true _ _ p))
+          ∙ sym (both_moved b a own' own (none_given _ q) (same_a ∙ none_given _ p))
       go true false p q =
-          next_stays (next h a) b (ap (λ (r : ℕ). eqb r 0) same_b ∙ q) ∙ sym (ap (λ (g : Held). next g a) (next_stays h b q))
+          next_stays (next h a) b (ap is_none same_b ∙ q) ∙ sym (ap (λ (g : Held). next g a) (next_stays h b q))
       go false t p q =
-          ap (λ (g : Held). next g b) (next_stays h a p) ∙ sym (next_stays (next h b) a (ap (λ (r : ℕ). eqb r 0) same_a ∙ p))
+          ap (λ (g : Held). next g b) (next_stays h a p) ∙ sym (next_stays (next h b) a (ap is_none same_a ∙ p))

@@ -1,10 +1,12 @@
 -- The checks one after the other: the first that applies is given, and what passes them all is known. Assumes nothing.
-use Rattle.std.specs.Prelude.{ℕ, ◌<◌, ◌≤◌, ◌≡◌, refl, Bool, true, false, cond, not, ◌&&◌, ◌||◌, List, [], ◌∷◌, eqb, leb, ltb}
+use Rattle.std.specs.Prelude.{ℕ, ◌<◌, ◌≤◌, ◌≡◌, refl, Bool, true, false, cond, not, ◌&&◌, ◌||◌, List, [], ◌∷◌, eqb, leb, ltb, Some, None}
 use Rattle.std.specs.List.{list_all}
 use Rattle.std.proofs.Common.{sym, ap, eqb-true, leb-false, ltb-false}
 use Rattle.std.proofs.lemmas.Bool.{eqb-false}
+use Rattle.std.proofs.lemmas.Option.{none-some}
 use Rattle.pins.specs.Sound.{sound}
 use Rattle.pins.specs.declared.state.State.{State}
+use Rattle.refusals.specs.declared.refusal.Refusal.TheVariants.{ArrayLength, Unsound, NoEvent, ChipCount, NoChip, SerialLength}
 use Rattle.board.specs.Chips.{fitted, together, serials_together}
 use Rattle.board.specs.Checks.{is_own, no_board, all_sound, checks}
 use Rattle.board.specs.declared.chips.Board.{Board}
@@ -34,7 +36,7 @@ pub record Passed (b : Board) (len serials chip code : ℕ) : Type 0 where
   pub numbered : serials_together (fitted b) ≡ serials
   pub known : code < 12
 
-pub checks_passed : (b : Board) (len serials chip code : ℕ) → checks b len serials chip code ≡ 0 → Passed b len serials chip code
+pub checks_passed : (b : Board) (len serials chip code : ℕ) → checks b len serials chip code ≡ None → Passed b len serials chip code
 unfolding checks
 checks_passed b len serials chip code =
     go (no_board b.count) (is_own code && leb b.count chip) (all_sound (fitted b)) (eqb len (together (fitted b)))
@@ -49,14 +51,16 @@ checks_passed b len serials chip code =
 
     go : (n o s e m k : Bool) → no_board b.count ≡ n → (is_own code && leb b.count chip) ≡ o → all_sound (fitted b) ≡ s
         → eqb len (together (fitted b)) ≡ e → eqb serials (serials_together (fitted b)) ≡ m → leb 12 code ≡ k
-        → ◌≡◌ {A = ℕ} (cond n 13 (cond o 14 (cond (not s) 4 (cond (not e) 2 (cond (not m) 15 (cond k 5 0)))))) 0
+        → cond n (Some ChipCount) (cond o (Some NoChip) (cond (not s) (Some Unsound) (cond (not e) (Some ArrayLength)
+        (cond (not m) (Some SerialLength) (cond k (Some NoEvent) None)))))
+        ≡ None
         → Passed b len serials chip code
-    go true o s e m k pn po ps pe pm pk h = absurd (eqb-false 13 0 refl h)
-    go false true s e m k pn po ps pe pm pk h = absurd (eqb-false 14 0 refl h)
-    go false false false e m k pn po ps pe pm pk h = absurd (eqb-false 4 0 refl h)
-    go false false true false m k pn po ps pe pm pk h = absurd (eqb-false 2 0 refl h)
-    go false false true true false k pn po ps pe pm pk h = absurd (eqb-false 15 0 refl h)
-    go false false true true true true pn po ps pe pm pk h = absurd (eqb-false 5 0 refl h)
+    go true o s e m k pn po ps pe pm pk h = absurd (none-some ChipCount (sym h))
+    go false true s e m k pn po ps pe pm pk h = absurd (none-some NoChip (sym h))
+    go false false false e m k pn po ps pe pm pk h = absurd (none-some Unsound (sym h))
+    go false false true false m k pn po ps pe pm pk h = absurd (none-some ArrayLength (sym h))
+    go false false true true false k pn po ps pe pm pk h = absurd (none-some SerialLength (sym h))
+    go false false true true true true pn po ps pe pm pk h = absurd (none-some NoEvent (sym h))
     go false false true true true false pn po ps pe pm pk h =
         record {
           some = pn;

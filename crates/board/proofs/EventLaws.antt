@@ -1,8 +1,10 @@
 -- An event on the board by its refusal: refused it leaves all, else it leaves the chips moved. Assumes nothing.
-use Rattle.std.specs.Prelude.{ℕ, zero, suc, ◌<◌, ◌≤◌, ◌≡◌, refl, Bool, true, false, cond, List, [], ◌∷◌, ◌++◌, eqb, length, take, drop}
-use Rattle.std.proofs.Common.{sym, subst, ◌∙◌, length-take-le, take_at, eq-eqb, ne_eqb}
+use Rattle.std.specs.Prelude.{ℕ, zero, suc, ◌<◌, ◌≤◌, ◌≡◌, refl, Bool, true, false, cond, List, [], ◌∷◌, ◌++◌, length, take, drop, Option, Some, None, is_none}
+use Rattle.std.proofs.Common.{sym, subst, ◌∙◌, length-take-le, take_at}
 use Rattle.std.proofs.Math.Path.{ap}
 use Rattle.pins.specs.declared.state.State.{State}
+use Rattle.refusals.specs.declared.refusal.Refusal.{Refusal}
+use Rattle.supply.specs.CheckedLaws.{some_given}
 use Rattle.chip.specs.Event as chip
 use Rattle.chip.proofs.RefusalLaws.{refusal_told, refusal_stays}
 use Rattle.chip.specs.Run.{Chip, next}
@@ -19,7 +21,7 @@ use Rattle.board.specs.declared.so.BoardSo.{BoardSo}
 use Rattle.board.specs.declared.so.BoardSo.TheVariants.{Released}
 
 -- "a refused event changes no chip": a chip that refuses is as it was
-pub next_refused : (c : Chip) (code : ℕ) → eqb (chip.event c.serial c.array c.state code).refusal 0 ≡ false → next c code ≡ c
+pub next_refused : (c : Chip) (code : ℕ) → is_none (chip.event c.serial c.array c.state code).refusal ≡ false → next c code ≡ c
 unfolding next
 next_refused c code h = λ i.
     record {
@@ -28,7 +30,7 @@ next_refused c code h = λ i.
       serial = c.serial;
     }
 
-pub at_refused : (cs : List Chip) (k code : ℕ) → eqb (refusal_at k code cs) 0 ≡ false → at k code cs ≡ cs
+pub at_refused : (cs : List Chip) (k code : ℕ) → is_none (refusal_at k code cs) ≡ false → at k code cs ≡ cs
 unfolding at refusal_at
 at_refused [] k code h = refl
 at_refused (c ∷ cs) zero code h = ap (λ (d : Chip). d ∷ cs) (next_refused c code h)
@@ -36,10 +38,10 @@ at_refused (c ∷ cs) (suc k) code h = ap (λ (ds : List Chip). c ∷ ds) (at_re
 
 -- so is a board whose chip refuses; at a shared line none does
 pub moved_refused :
-    (cs : List Chip) (k code : ℕ) → eqb (cond (is_own code) (refusal_at k code cs) 0) 0 ≡ false → moved k code cs ≡ cs
+    (cs : List Chip) (k code : ℕ) → is_none (cond (is_own code) (refusal_at k code cs) None) ≡ false → moved k code cs ≡ cs
 moved_refused cs k code = go (is_own code)
   where
-    go : (t : Bool) → eqb (cond t (refusal_at k code cs) 0) 0 ≡ false → cond t (at k code cs) (every code cs) ≡ cs
+    go : (t : Bool) → is_none (cond t (refusal_at k code cs) None) ≡ false → cond t (at k code cs) (every code cs) ≡ cs
     go true h = at_refused cs k code h
     go false h = cc
 
@@ -80,37 +82,42 @@ module _ (ns xs : List ℕ) (b : Board) (k code : ℕ) where
   by : Bool → Outcome
   by t = cond t (left b (moved k code (chips_of b xs ns))) (refused (refusal ns xs b k code) b xs)
 
-  pub event_refused : eqb (refusal ns xs b k code) 0 ≡ false → event ns xs b k code ≡ refused (refusal ns xs b k code) b xs
+  pub event_refused : is_none (refusal ns xs b k code) ≡ false → event ns xs b k code ≡ refused (refusal ns xs b k code) b xs
   unfolding event by
   event_refused e = ap by e
 
-  pub event_left : refusal ns xs b k code ≡ 0 → event ns xs b k code ≡ left b (moved k code (chips_of b xs ns))
+  pub event_left : refusal ns xs b k code ≡ None → event ns xs b k code ≡ left b (moved k code (chips_of b xs ns))
   unfolding event by
-  event_left e = ap by (eq-eqb _ _ e)
+  event_left e = ap (λ (r : Option Refusal). by (is_none r)) e
 
   -- whose refusal it is
-  pub by_checks : eqb (checks b (length xs) (length ns) k code) 0 ≡ false → refusal ns xs b k code ≡ checks b (length xs) (length ns) k code
+  pub by_checks : is_none (checks b (length xs) (length ns) k code) ≡ false → refusal ns xs b k code ≡ checks b (length xs) (length ns) k code
   unfolding refusal
-  by_checks e = rw e
+  by_checks = go (checks b (length xs) (length ns) k code)
+    where
+      go : (given : Option Refusal) → is_none given ≡ false
+          → chip.first given (cond (is_own code) (refusal_at k code (chips_of b xs ns)) None) ≡ given
+      go None e = cc
+      go (Some why) e = refl
 
-  pub by_chip : checks b (length xs) (length ns) k code ≡ 0 → is_own code ≡ true → refusal ns xs b k code ≡ refusal_at k code (chips_of b xs ns)
+  pub by_chip : checks b (length xs) (length ns) k code ≡ None → is_own code ≡ true → refusal ns xs b k code ≡ refusal_at k code (chips_of b xs ns)
   unfolding refusal
   by_chip e own = rw (e, own)
 
-  pub by_none : checks b (length xs) (length ns) k code ≡ 0 → is_own code ≡ false → refusal ns xs b k code ≡ 0
+  pub by_none : checks b (length xs) (length ns) k code ≡ None → is_own code ≡ false → refusal ns xs b k code ≡ None
   unfolding refusal
   by_none e shared = rw (e, shared)
 
   -- (at a shared line no chip's)
   pub by_moved :
-      checks b (length xs) (length ns) k code ≡ 0
-      → refusal ns xs b k code ≡ cond (is_own code) (refusal_at k code (chips_of b xs ns)) 0
+      checks b (length xs) (length ns) k code ≡ None
+      → refusal ns xs b k code ≡ cond (is_own code) (refusal_at k code (chips_of b xs ns)) None
   unfolding refusal
   by_moved e = rw e
 
   -- what the call promises where it is refused, and where it is not
   pub promise_refused :
-      (r : ℕ) (ys : List ℕ) → r ≡ refusal ns xs b k code → (r ≡ 0 → ⊥) → ys ≡ xs
+      (r : Option Refusal) (ys : List ℕ) → r ≡ refusal ns xs b k code → (r ≡ None → ⊥) → ys ≡ xs
       → BoardPromise ns xs b k code (record { refusal = r; so = Released; board = b }) ys
   promise_refused r ys e n s = (
     e ∙ sym (ap (λ (o : Outcome). o.refusal) out),
@@ -120,11 +127,11 @@ module _ (ns xs : List ℕ) (b : Board) (k code : ℕ) where
   )
     where
       out : event ns xs b k code ≡ refused (refusal ns xs b k code) b xs
-      out = event_refused (sym (ap (λ (z : ℕ). eqb z 0) e) ∙ ne_eqb r 0 n)
+      out = event_refused (sym (ap is_none e) ∙ some_given r n)
 
   pub promise_left :
-      (r : ℕ) (so : BoardSo) (after : Board) (ys : List ℕ) (cs : List Chip)
-      → r ≡ 0 → refusal ns xs b k code ≡ 0 → cs ≡ moved k code (chips_of b xs ns) → length cs ≡ b.count
+      (r : Option Refusal) (so : BoardSo) (after : Board) (ys : List ℕ) (cs : List Chip)
+      → r ≡ None → refusal ns xs b k code ≡ None → cs ≡ moved k code (chips_of b xs ns) → length cs ≡ b.count
       → so ≡ board_so (fitted after) → after ≡ with_chips b cs → ys ≡ slice cs
       → BoardPromise ns xs b k code (record { refusal = r; so = so; board = after }) ys
   promise_left r so after ys cs z e m n p q s = (
@@ -138,13 +145,13 @@ module _ (ns xs : List ℕ) (b : Board) (k code : ℕ) where
       out = event_left e ∙ ap (left b) (sym m)
 
 -- the ways out of the call: the checks gave r
-module _ (ns xs : List ℕ) (b : Board) (k code r : ℕ) (told : r ≡ checks b (length xs) (length ns) k code) where
-  pub way_refused : (r ≡ 0 → ⊥) → BoardPromise ns xs b k code (record { refusal = r; so = Released; board = b }) xs
+module _ (ns xs : List ℕ) (b : Board) (k code : ℕ) (r : Option Refusal) (told : r ≡ checks b (length xs) (length ns) k code) where
+  pub way_refused : (r ≡ None → ⊥) → BoardPromise ns xs b k code (record { refusal = r; so = Released; board = b }) xs
   way_refused n =
-      promise_refused ns xs b k code r xs (told ∙ sym (by_checks ns xs b k code (sym (ap (λ (z : ℕ). eqb z 0) told) ∙ ne_eqb r 0 n))) n refl
+      promise_refused ns xs b k code r xs (told ∙ sym (by_checks ns xs b k code (sym (ap is_none told) ∙ some_given r n))) n refl
 
-  module _ (fine : r ≡ 0) where
-    none : checks b (length xs) (length ns) k code ≡ 0
+  module _ (fine : r ≡ None) where
+    none : checks b (length xs) (length ns) k code ≡ None
     none = sym told ∙ fine
 
     passed : Passed b (length xs) (length ns) k code
@@ -165,11 +172,11 @@ module _ (ns xs : List ℕ) (b : Board) (k code r : ℕ) (told : r ≡ checks b 
     pub its_chip : is_own code ≡ true → k < b.count
     its_chip = passed.there
 
-    -- the chips have moved, and q is the refusal of the one that an own line moves, or 0
-    module _ (q : ℕ) (ys : List ℕ) (its : q ≡ cond (is_own code) (refusal_at k code (chips_of b xs ns)) 0)
+    -- the chips have moved, and q is the refusal of the one that an own line moves, or none
+    module _ (q : Option Refusal) (ys : List ℕ) (its : q ≡ cond (is_own code) (refusal_at k code (chips_of b xs ns)) None)
         (written : ys ≡ slice (moved k code (chips_of b xs ns))) where
       pub way_left :
-          (so : BoardSo) (ss : List State) → b.count ≤ length b.chips → q ≡ 0 → ss ≡ states (moved k code (chips_of b xs ns))
+          (so : BoardSo) (ss : List State) → b.count ≤ length b.chips → q ≡ None → ss ≡ states (moved k code (chips_of b xs ns))
           → so ≡ board_so (take b.count (ss ++ drop b.count b.chips))
           → BoardPromise ns xs b k code (record { refusal = q; so = so; board = record { count = b.count; chips = ss ++ drop b.count b.chips } }) ys
       way_left so ss places z left p =
@@ -178,9 +185,9 @@ module _ (ns xs : List ℕ) (b : Board) (k code r : ℕ) (told : r ≡ checks b 
           (many_moved k code (chips_of b xs ns) ∙ many_pieces (fitted b) xs ns ∙ length-take-le b.count b.chips places)
           p (ap (λ (rest : List State). record { count = b.count; chips = rest ++ drop b.count b.chips }) left) written
 
-      pub way_moved_refused : (q ≡ 0 → ⊥) → BoardPromise ns xs b k code (record { refusal = q; so = Released; board = b }) ys
+      pub way_moved_refused : (q ≡ None → ⊥) → BoardPromise ns xs b k code (record { refusal = q; so = Released; board = b }) ys
       way_moved_refused n =
           promise_refused ns xs b k code q ys (its ∙ sym (by_moved ns xs b k code none)) n
           (written
-          ∙ ap slice (moved_refused (chips_of b xs ns) k code (sym (ap (λ (z : ℕ). eqb z 0) its) ∙ ne_eqb q 0 n))
+          ∙ ap slice (moved_refused (chips_of b xs ns) k code (sym (ap is_none its) ∙ some_given q n))
           ∙ slice_of (fitted b) xs ns whole_slice)

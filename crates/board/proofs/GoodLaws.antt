@@ -1,9 +1,12 @@
 -- A board that no refusal of its own stands against stays so: its chips are sound, and each has its piece. Assumes nothing.
-use Rattle.std.specs.Prelude.{ℕ, zero, suc, ◌+◌, ◌-◌, ◌≤◌, ◌≡◌, refl, Bool, true, false, cond, ◌&&◌, List, [], ◌∷◌, ◌++◌, eqb, leb, length, drop}
-use Rattle.std.proofs.Common.{arith, sym, ap, subst, ◌∙◌, length-append, length-drop, length-take-le, drop_at, eqb-true, eq-eqb}
+use Rattle.std.specs.Prelude.{ℕ, zero, suc, ◌+◌, ◌-◌, ◌≤◌, ◌≡◌, refl, Bool, true, false, cond, ◌&&◌, List, [], ◌∷◌, ◌++◌, leb, length, drop, Option, Some, None, is_none}
+use Rattle.std.proofs.Common.{arith, sym, ap, subst, ◌∙◌, length-append, length-drop, length-take-le, drop_at, eq-eqb}
 use Rattle.laws.specs.TestLaws.{both, left, right}
 use Rattle.pins.specs.Sound.{sound}
 use Rattle.pins.specs.declared.state.State.{State}
+use Rattle.refusals.specs.declared.refusal.Refusal.{Refusal}
+use Rattle.refusals.specs.declared.refusal.Refusal.TheVariants.{NoEvent, NoChip}
+use Rattle.supply.specs.CheckedLaws.{none_given}
 use Rattle.chip.specs.Run.{Chip}
 use Rattle.chip.proofs.RunLaws.{next_sound}
 use Rattle.board.specs.Chips.{fitted, together, serials_together, pieces, states, slice, with_chips}
@@ -25,8 +28,8 @@ pub record Good (h : Held) : Type 0 where
   pub long : together (fitted h.board) ≡ length h.slice
   pub numbered : serials_together (fitted h.board) ≡ length h.serials
 
-abbrev pub late_checks : ℕ → ℕ → ℕ → ℕ
-late_checks count k code = cond (is_own code && leb count k) 14 (cond (leb 12 code) 5 0)
+abbrev pub late_checks : ℕ → ℕ → ℕ → Option Refusal
+late_checks count k code = cond (is_own code && leb count k) (Some NoChip) (cond (leb 12 code) (Some NoEvent) None)
 
 pub good_checks :
     (h : Held) (k code : ℕ) → Good h
@@ -39,14 +42,14 @@ abbrev pub put : Held → List Chip → Held
 put h cs = record { board = with_chips h.board cs; slice = slice cs; serials = h.serials }
 
 module _ (h : Held) (e : Sent) where
-  pub next_stays : eqb (refusal_of h e) 0 ≡ false → next h e ≡ h
+  pub next_stays : is_none (refusal_of h e) ≡ false → next h e ≡ h
   unfolding next
   next_stays r = λ i. record { board = (out i).board; slice = (out i).slice; serials = h.serials }
     where
       out : event.event h.serials h.slice h.board e.chip e.code ≡ event.refused (refusal_of h e) h.board h.slice
       out = event_refused h.serials h.slice h.board e.chip e.code r
 
-  pub next_put : refusal_of h e ≡ 0 → next h e ≡ put h (moved e.chip e.code (chips h))
+  pub next_put : refusal_of h e ≡ None → next h e ≡ put h (moved e.chip e.code (chips h))
   unfolding next
   next_put r = λ i. record { board = (out i).board; slice = (out i).slice; serials = h.serials }
     where
@@ -54,13 +57,13 @@ module _ (h : Held) (e : Sent) where
       out = event_left h.serials h.slice h.board e.chip e.code r
 
   -- an accepted event passed the checks
-  pub accepted_passed : refusal_of h e ≡ 0 → checks h.board (length h.slice) (length h.serials) e.chip e.code ≡ 0
-  accepted_passed r = go (eqb (checks h.board (length h.slice) (length h.serials) e.chip e.code) 0) refl
+  pub accepted_passed : refusal_of h e ≡ None → checks h.board (length h.slice) (length h.serials) e.chip e.code ≡ None
+  accepted_passed r = go (is_none (checks h.board (length h.slice) (length h.serials) e.chip e.code)) refl
     where
       go :
-          (t : Bool) → eqb (checks h.board (length h.slice) (length h.serials) e.chip e.code) 0 ≡ t
-          → checks h.board (length h.slice) (length h.serials) e.chip e.code ≡ 0
-      go true p = eqb-true _ _ p
+          (t : Bool) → is_none (checks h.board (length h.slice) (length h.serials) e.chip e.code) ≡ t
+          → checks h.board (length h.slice) (length h.serials) e.chip e.code ≡ None
+      go true p = none_given _ p
       go false p = sym (by_checks h.serials h.slice h.board e.chip e.code p) ∙ r
 
 -- every chip sound, every chip in its place
@@ -152,24 +155,24 @@ module _ (h : Held) (g : Good h) where
       go true = sounds_at k code (chips h) sounds
       go false = sounds_every code (chips h) sounds
 
-  pub moved_chips : (e : Sent) → refusal_of h e ≡ 0 → chips (next h e) ≡ moved e.chip e.code (chips h)
+  pub moved_chips : (e : Sent) → refusal_of h e ≡ None → chips (next h e) ≡ moved e.chip e.code (chips h)
   moved_chips e r =
       ap chips (next_put h e r)
       ∙ put_chips h (moved e.chip e.code (chips h)) (many_moved e.chip e.code) (fit_moved e.chip e.code)
 
   -- accepted or refused, a good board stays good
   pub good_next : (e : Sent) → Good (next h e)
-  good_next e = go (eqb (refusal_of h e) 0) refl
+  good_next e = go (is_none (refusal_of h e)) refl
     where
-      go : (t : Bool) → eqb (refusal_of h e) 0 ≡ t → Good (next h e)
+      go : (t : Bool) → is_none (refusal_of h e) ≡ t → Good (next h e)
       go true p =
-          subst Good (sym (next_put h e (eqb-true _ _ p)))
+          subst Good (sym (next_put h e (none_given _ p)))
           (good_put h (moved e.chip e.code (chips h)) (many_moved e.chip e.code) g.some g.eight
           (fit_moved e.chip e.code) (sounds_moved e.chip e.code))
       go false p = subst Good (sym (next_stays h e p)) g
 
 -- a board that an event was accepted on is good
-pub good_from : (h : Held) (e : Sent) → length h.board.chips ≡ 8 → refusal_of h e ≡ 0 → Good h
+pub good_from : (h : Held) (e : Sent) → length h.board.chips ≡ 8 → refusal_of h e ≡ None → Good h
 good_from h e eight r =
     let passed = checks_passed h.board (length h.slice) (length h.serials) e.chip e.code (accepted_passed h e r) in
     record { eight = eight; some = passed.some; sound = passed.sound; long = passed.long; numbered = passed.numbered }

@@ -7,6 +7,7 @@ use mathlib.Core.List.{List, [], ◌∷◌, ◌++◌, append_assoc}
 use Rattle.std.proofs.Math.ListN.{take, drop, get_or, set}
 use Rattle.std.proofs.lemmas.Bool.{eqb-false}
 use Rattle.pins.specs.declared.state.State.{State}
+use Rattle.refusals.specs.RefusalLaws.{given_sole}
 use Rattle.chip.specs.Answers.{Paper}
 use Rattle.chip.specs.Event as chip
 use Rattle.chip.specs.Promises.{EventPromise}
@@ -135,7 +136,7 @@ module _ (d : State) (L : List State) (k : ℕ) (h : k < length L) where
     module _ (r : Answer) (ys : List ℕ) (told : EventPromise its.serial its.array own code r ys) where
       pub one_refused : r.refusal ≡ refusal_at k code (pieces L xs ns)
       one_refused =
-          ap (λ (a : Paper). a.refusal) told.0
+          given_sole _ _ (ap (λ (a : Paper). a.refusal) told.0)
           ∙ sym (ap (λ (c : Chip). (chip.event c.serial c.array c.state code).refusal) same_chip)
           ∙ sym (one_refusal code d L xs ns k h)
 

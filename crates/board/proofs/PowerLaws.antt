@@ -1,15 +1,16 @@
 -- The loop that powers up each chip over its piece, turn by turn; and what an accepted power-up says. Assumes nothing.
-use Rattle.std.specs.Prelude.{ℕ, suc, ◌+◌, ◌-◌, ◌*◌, ◌≤◌, ◌<◌, ◌≡◌, refl, Bool, true, false, cond, not, ◌&&◌, [], eqb, length, get_or, set}
+use Rattle.std.specs.Prelude.{ℕ, suc, ◌+◌, ◌-◌, ◌*◌, ◌≤◌, ◌<◌, ◌≡◌, refl, Bool, true, false, cond, not, ◌&&◌, [], eqb, length, get_or, set, Some, None}
 use Rattle.std.specs.List.{list_all, sum_by}
 use Rattle.std.proofs.Common.{zero-le, lit≤, le_antisymm, lt_of_lt_of_le, arith, ◌∙◌, length-set, drop-drop, eqb-true}
 use Rattle.std.proofs.Math.Path.{sym, ap, subst}
 use mathlib.Core.List.{List, ◌∷◌, ◌++◌}
 use Rattle.std.proofs.Math.ListN.{take, drop, take-append-drop}
-use Rattle.std.proofs.lemmas.Bool.{eqb-false}
+use Rattle.std.proofs.lemmas.Option.{none-some}
 use Rattle.std.proofs.lemmas.List.Recursion.{is_sum_by}
 use Rattle.parts.specs.Figures.{is_part, in_mask}
 use Rattle.parts.specs.FigureLaws.{most, largest}
 use Rattle.pins.specs.declared.state.State.{State}
+use Rattle.refusals.specs.declared.refusal.Refusal.TheVariants.{NoPart, ArrayLength, KeptBits, ChipCount}
 use Rattle.supply.specs.Power as chip
 use Rattle.board.specs.Chips.{piece_length, sum}
 use Rattle.board.specs.Checks.{no_board}
@@ -129,7 +130,7 @@ pub record Allowed (p : Plan) (len : ℕ) : Type 0 where
   pub long : together_asked (asked p) ≡ len
   pub masked : all_masked (asked p) ≡ true
 
-pub power_allowed : (p : Plan) (len : ℕ) → power_refusal p len ≡ 0 → Allowed p len
+pub power_allowed : (p : Plan) (len : ℕ) → power_refusal p len ≡ None → Allowed p len
 unfolding power_refusal
 power_allowed p len =
     go (no_board p.count) (all_parts (asked p)) (eqb len (together_asked (asked p))) (all_masked (asked p)) refl refl refl refl
@@ -137,9 +138,10 @@ power_allowed p len =
     go :
         (n a e m : Bool) → no_board p.count ≡ n → all_parts (asked p) ≡ a → eqb len (together_asked (asked p)) ≡ e
         → all_masked (asked p) ≡ m
-        → ◌≡◌ {A = ℕ} (cond n 13 (cond (not a) 1 (cond (not e) 2 (cond (not m) 3 0)))) 0 → Allowed p len
-    go true a e m pn pa pe pm h = absurd (eqb-false 13 0 refl h)
-    go false false e m pn pa pe pm h = absurd (eqb-false 1 0 refl h)
-    go false true false m pn pa pe pm h = absurd (eqb-false 2 0 refl h)
-    go false true true false pn pa pe pm h = absurd (eqb-false 3 0 refl h)
+        → cond n (Some ChipCount) (cond (not a) (Some NoPart) (cond (not e) (Some ArrayLength) (cond (not m) (Some KeptBits) None))) ≡ None
+        → Allowed p len
+    go true a e m pn pa pe pm h = absurd (none-some ChipCount (sym h))
+    go false false e m pn pa pe pm h = absurd (none-some NoPart (sym h))
+    go false true false m pn pa pe pm h = absurd (none-some ArrayLength (sym h))
+    go false true true false pn pa pe pm h = absurd (none-some KeptBits (sym h))
     go false true true true pn pa pe pm h = record { some = pn; few = few p.count pn; parts = pa; long = sym (eqb-true _ _ pe); masked = pm }

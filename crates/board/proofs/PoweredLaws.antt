@@ -1,15 +1,16 @@
 -- After the board's power-up each chip is what its own power-up gives over its piece, with its serial number, and the board is
 -- good if the serials are "eight bytes for each part 5 chip". Assumes nothing.
-use Rattle.std.specs.Prelude.{ℕ, zero, suc, ◌+◌, ◌-◌, ◌<◌, ◌≤◌, ◌≡◌, Bool, cond, ◌||◌, List, [], ◌∷◌, ◌++◌, length, take, get_or}
+use Rattle.std.specs.Prelude.{ℕ, zero, suc, ◌+◌, ◌-◌, ◌<◌, ◌≤◌, ◌≡◌, Bool, cond, ◌||◌, List, [], ◌∷◌, ◌++◌, length, take, get_or, Option, Some, None, is_none}
 use Rattle.std.proofs.Common.{arith, sym, ap, subst, ◌∙◌, length-append, length-drop, length-take-le, take_at}
 use Rattle.std.proofs.Math.Path.{refl}
 use Rattle.std.proofs.Math.Bool.{true, false}
 use Rattle.std.proofs.Math.Dec.{eqb}
 use Rattle.std.proofs.Math.ListN.{drop}
-use borrow.Author.Tests.{eqb-true, eqb-false, eq-eqb}
+use borrow.Author.Tests.{eqb-false, eq-eqb}
 use Rattle.laws.specs.TestLaws.{both, left, right}
 use Rattle.parts.specs.Figures.{is_part, fits_serial, in_mask}
 use Rattle.pins.specs.declared.state.State.{State}
+use Rattle.refusals.specs.declared.refusal.Refusal.{Refusal}
 use Rattle.supply.specs.Power as chip
 use Rattle.supply.specs.PowerLaws.{power_state}
 use Rattle.chip.specs.Run as chip-run
@@ -30,14 +31,14 @@ use Rattle.board.specs.declared.power.PoweredBoard.{PoweredBoard}
 -- a chip's power-up over a piece of its length
 accepts :
     (a : Asked) (xs : List ℕ) → is_part a.part ≡ true → in_mask a.part a.kept ≡ true
-    → length xs ≡ piece_length a.part → (chip.power_up a.part a.kept xs).refusal ≡ 0
+    → length xs ≡ piece_length a.part → (chip.power_up a.part a.kept xs).refusal ≡ None
 unfolding chip.power_up chip.power_refusal chip.fill_refusal
 accepts a xs part mask long = rw (part, eq-eqb _ _ long, mask)
 
 -- each chip's power-up is accepted
 data Accepted : List Asked → List ℕ → Type 0 where
   none : {xs : List ℕ} → Accepted [] xs
-  also : {a : Asked} {more : List Asked} {xs : List ℕ} → (chip.power_up a.part a.kept (take (piece_length a.part) xs)).refusal ≡ 0
+  also : {a : Asked} {more : List Asked} {xs : List ℕ} → (chip.power_up a.part a.kept (take (piece_length a.part) xs)).refusal ≡ None
       → Accepted more (drop (piece_length a.part) xs) → Accepted (a ∷ more) xs
 
 inner : (a t n : ℕ) → a + t ≡ n → 0 + a ≤ n
@@ -54,7 +55,7 @@ all_accepted (a ∷ qs) xs p m e =
     (rest_long (piece_length a.part) (together_asked qs) xs e))
 
 its_part :
-    (a : Asked) (xs : List ℕ) → (chip.power_up a.part a.kept xs).refusal ≡ 0
+    (a : Asked) (xs : List ℕ) → (chip.power_up a.part a.kept xs).refusal ≡ None
     → (chip.power_up a.part a.kept xs).state.part ≡ a.part
 its_part a xs r = ap (λ (s : State). s.part) (power_state a.part a.kept xs r)
 
@@ -81,7 +82,7 @@ powered_at :
     (qs : List Asked) (xs ns : List ℕ) → Accepted qs xs → (k : ℕ) (a : Asked) (d : Chip) → k < length qs
     → (get_or (pieces (powered qs xs) xs ns) k d
     ≡ chip-run.from_power_up (get_or qs k a).part (get_or qs k a).kept (piece_at qs xs k) (serial_at qs ns k))
-    × ((chip.power_up (get_or qs k a).part (get_or qs k a).kept (piece_at qs xs k)).refusal ≡ 0)
+    × ((chip.power_up (get_or qs k a).part (get_or qs k a).kept (piece_at qs xs k)).refusal ≡ None)
 unfolding pieces powered share_at
 powered_at [] xs ns none k a d h = absurd (eqb-false 0 1 refl (omega (arith, h)))
 powered_at (q ∷ qs) xs ns (also r more) zero a d h = (
@@ -111,24 +112,24 @@ share_long f (q ∷ qs) xs (suc k) a h e =
     share_long f qs (drop (f q.part) xs) k a (omega (arith, h)) (rest_long (f q.part) (sum (λ a. f a.part) qs) xs e)
 
 -- an accepted power-up of the board: no refusal, the powered chips
-module _ (p : Plan) (xs : List ℕ) (fine : (power_up p xs).refusal ≡ 0) where
-  fits : power_refusal p (length xs) ≡ 0
+module _ (p : Plan) (xs : List ℕ) (fine : (power_up p xs).refusal ≡ None) where
+  fits : power_refusal p (length xs) ≡ None
   unfolding power_up
-  fits = go (eqb (power_refusal p (length xs)) 0) refl fine
+  fits = go (power_refusal p (length xs)) fine
     where
-      go : (t : Bool) → eqb (power_refusal p (length xs)) 0 ≡ t
-          → (cond {A = PoweredBoard} t (record { refusal = 0; board = record { count = p.count; chips = powered (asked p) xs ++ drop p.count spare } })
-          (record { refusal = power_refusal p (length xs); board = record { count = 0; chips = spare } })).refusal ≡ 0
-          → power_refusal p (length xs) ≡ 0
-      go true e r = eqb-true _ _ e
-      go false e r = r
+      go : (given : Option Refusal)
+          → (cond {A = PoweredBoard} (is_none given) (record { refusal = None; board = record { count = p.count; chips = powered (asked p) xs ++ drop p.count spare } })
+          (record { refusal = given; board = record { count = 0; chips = spare } })).refusal ≡ None
+          → given ≡ None
+      go None r = refl
+      go (Some why) r = r
 
   allowed : Allowed p (length xs)
   allowed = power_allowed p (length xs) fits
 
   pub powered_board : (power_up p xs).board ≡ record { count = p.count; chips = powered (asked p) xs ++ drop p.count spare }
   unfolding power_up
-  powered_board = rw (eq-eqb _ _ fits)
+  powered_board = rw fits
 
   accepted : Accepted (asked p) xs
   accepted = all_accepted (asked p) xs allowed.parts allowed.masked allowed.long
@@ -165,7 +166,7 @@ module _ (p : Plan) (xs : List ℕ) (fine : (power_up p xs).refusal ≡ 0) where
       pub powered_chip :
           (get_or (chips (from_power_up p xs ns)) k d
           ≡ chip-run.from_power_up (get_or (asked p) k a).part (get_or (asked p) k a).kept (piece_at (asked p) xs k) (serial_at (asked p) ns k))
-          × ((chip.power_up (get_or (asked p) k a).part (get_or (asked p) k a).kept (piece_at (asked p) xs k)).refusal ≡ 0)
+          × ((chip.power_up (get_or (asked p) k a).part (get_or (asked p) k a).kept (piece_at (asked p) xs k)).refusal ≡ None)
       powered_chip =
           let at-k = powered_at (asked p) xs ns accepted k a d here in (
             ap (λ (b : Board). get_or (chips_of b xs ns) k d) powered_board

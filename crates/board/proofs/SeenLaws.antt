@@ -1,12 +1,13 @@
 -- The run of a board, seen by one chip, is that chip's run over the events it sees. Event by event: a shared line moves every
 -- chip, an own line moves its chip alone, and what the board refuses the chip would refuse. Assumes nothing.
-use Rattle.std.specs.Prelude.{ℕ, zero, suc, ◌<◌, ◌≡◌, Bool, not, ◌||◌, List, [], ◌∷◌, leb, length}
+use Rattle.std.specs.Prelude.{ℕ, zero, suc, ◌<◌, ◌≡◌, Bool, not, ◌||◌, List, [], ◌∷◌, leb, length, None, is_none}
 use Rattle.std.proofs.Common.{arith, sym, ap, subst, ◌∙◌}
 use Rattle.std.proofs.Math.Path.{refl}
 use Rattle.std.proofs.Math.Bool.{true, false, cond}
 use Rattle.std.proofs.Math.Dec.{eqb}
 use Rattle.std.proofs.Math.ListN.{get_or}
-use borrow.Author.Tests.{eqb-true, eqb-false, ne_eqb, leb-true, lt-leb}
+use borrow.Author.Tests.{eqb-true, eqb-false, leb-true, lt-leb}
+use Rattle.supply.specs.CheckedLaws.{none_given, some_given}
 use Rattle.chip.specs.Event as chip
 use Rattle.chip.proofs.EventLaws as chip-event
 use Rattle.chip.specs.Run as chip-run
@@ -23,7 +24,7 @@ use Rattle.board.specs.Run.{Held, chips, Sent, refusal_of, next, run, sees, seen
 unknown_stays : (c : Chip) (code : ℕ) → leb 12 code ≡ true → chip-run.next c code ≡ c
 unknown_stays c code h =
     next_refused c code
-    (ne_eqb _ 0 (λ r. clash (chip-event.checks_passed _ _ _ code (chip-event.accepted_passed c.serial c.array c.state code r)).1))
+    (some_given _ (λ r. clash (chip-event.checks_passed _ _ _ code (chip-event.accepted_passed c.serial c.array c.state code r)).1))
   where
     clash : code < 12 → ⊥
     clash l = eqb-false 0 1 refl (omega (arith, l, leb-true 12 code h))
@@ -58,13 +59,13 @@ module _ (h : Held) (g : Good h) (k : ℕ) (there : k < h.board.count) (d : Chip
 
   -- a code that is no event is refused
   unknown : (e : Sent) → leb 12 e.code ≡ true → next h e ≡ h
-  unknown e u = go (eqb (refusal_of h e) 0) refl
+  unknown e u = go (is_none (refusal_of h e)) refl
     where
       clash : e.code < 12 → ⊥
       clash l = eqb-false 0 1 refl (omega (arith, l, leb-true 12 e.code u))
 
-      go : (t : Bool) → eqb (refusal_of h e) 0 ≡ t → next h e ≡ h
-      go true p = absurd (clash (checks_passed h.board (length h.slice) (length h.serials) e.chip e.code (accepted_passed h e (eqb-true _ _ p))).known)
+      go : (t : Bool) → is_none (refusal_of h e) ≡ t → next h e ≡ h
+      go true p = absurd (clash (checks_passed h.board (length h.slice) (length h.serials) e.chip e.code (accepted_passed h e (none_given _ p))).known)
       go false p = next_stays h e p
 
   both_stay : (e : Sent) → leb 12 e.code ≡ true → get_or (chips (next h e)) k d ≡ chip-run.next mine e.code
@@ -88,23 +89,23 @@ module _ (h : Held) (g : Good h) (k : ℕ) (there : k < h.board.count) (d : Chip
       → refusal_of h e ≡ (chip.event mine.serial mine.array mine.state e.code).refusal
   own_refusal e m o u =
       good_refusal h g e
-      ∙ ap (λ (j : ℕ). chip.first (late_checks h.board.count j e.code) (cond (is_own e.code) (refusal_at j e.code (chips h)) 0)) m
+      ∙ ap (λ (j : ℕ). chip.first (late_checks h.board.count j e.code) (cond (is_own e.code) (refusal_at j e.code (chips h)) None)) m
       ∙ rw (o, lt-leb h.board.count k there, u) (at_refusal (chips h) k e.code d here)
 
   own : (e : Sent) → e.chip ≡ k → is_own e.code ≡ true → get_or (chips (next h e)) k d ≡ chip-run.next mine e.code
-  own e m o = go (leb 12 e.code) (eqb (refusal_of h e) 0) refl refl
+  own e m o = go (leb 12 e.code) (is_none (refusal_of h e)) refl refl
     where
-      go : (t a : Bool) → leb 12 e.code ≡ t → eqb (refusal_of h e) 0 ≡ a → get_or (chips (next h e)) k d ≡ chip-run.next mine e.code
+      go : (t a : Bool) → leb 12 e.code ≡ t → is_none (refusal_of h e) ≡ a → get_or (chips (next h e)) k d ≡ chip-run.next mine e.code
       go true a u p = both_stay e u
       go false true u p =
           ap (λ (cs : List Chip). get_or cs k d)
-          (moved_chips h g e (eqb-true _ _ p)
+          (moved_chips h g e (none_given _ p)
           ∙ ap (λ (t : Bool). cond t (at e.chip e.code (chips h)) (every e.code (chips h))) o
           ∙ ap (λ (j : ℕ). at j e.code (chips h)) m)
           ∙ at_at (chips h) k e.code d here
       go false false u p =
           ap (λ (f : Held). get_or (chips f) k d) (next_stays h e p)
-          ∙ sym (next_refused mine e.code (ap (λ (r : ℕ). eqb r 0) (sym (own_refusal e m o u)) ∙ p))
+          ∙ sym (next_refused mine e.code (ap is_none (sym (own_refusal e m o u)) ∙ p))
 
   pub sees_next : (e : Sent) → get_or (chips (next h e)) k d ≡ cond (sees k e) (chip-run.next mine e.code) mine
   unfolding sees

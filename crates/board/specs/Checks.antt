@@ -1,7 +1,9 @@
 -- The refusals of an event on the board that are found before any chip moves. Assumes nothing.
-use Rattle.std.specs.Prelude.{ℕ, ◌/◌, Bool, true, cond, not, ◌&&◌, ◌||◌, List, [], ◌∷◌, eqb, leb, ltb}
+use Rattle.std.specs.Prelude.{ℕ, ◌/◌, Bool, true, cond, not, ◌&&◌, ◌||◌, List, [], ◌∷◌, eqb, leb, ltb, Option, Some, None}
 use Rattle.pins.specs.Sound.{sound}
 use Rattle.pins.specs.declared.state.State.{State}
+use Rattle.refusals.specs.declared.refusal.Refusal.{Refusal}
+use Rattle.refusals.specs.declared.refusal.Refusal.TheVariants.{ArrayLength, Unsound, NoEvent, ChipCount, NoChip, SerialLength}
 use Rattle.board.specs.Chips.{fitted, together, serials_together}
 use Rattle.board.specs.declared.chips.Board.{Board}
 
@@ -19,12 +21,12 @@ all_sound (s ∷ ss) = sound s && all_sound ss
 
 -- "13, no chips or over eight; 14, no such chip, for an own line only; 4 for any chip; 2, slice not as long as all pieces
 --  together; 5"; 15, "slice not eight bytes per part 5 chip", "after 2" (Wish 8). By the lengths of the slice and of the serials.
-unfoldable pub checks : Board → ℕ → ℕ → ℕ → ℕ → ℕ
+unfoldable pub checks : Board → ℕ → ℕ → ℕ → ℕ → Option Refusal
 checks b len serials chip code =
-    cond (no_board b.count) 13
-    (cond (is_own code && leb b.count chip) 14
-    (cond (not (all_sound (fitted b))) 4
-    (cond (not (eqb len (together (fitted b)))) 2
-    (cond (not (eqb serials (serials_together (fitted b)))) 15
-    (cond (leb 12 code) 5
-    0)))))
+    cond (no_board b.count) (Some ChipCount)
+    (cond (is_own code && leb b.count chip) (Some NoChip)
+    (cond (not (all_sound (fitted b))) (Some Unsound)
+    (cond (not (eqb len (together (fitted b)))) (Some ArrayLength)
+    (cond (not (eqb serials (serials_together (fitted b)))) (Some SerialLength)
+    (cond (leb 12 code) (Some NoEvent)
+    None)))))

@@ -1,5 +1,6 @@
 -- The board's run over a list of events: the board threaded, the slice as each event left it. Assumes nothing.
-use Rattle.std.specs.Prelude.{ℕ, zero, suc, Bool, cond, not, ◌||◌, List, [], ◌∷◌, eqb, take, drop}
+use Rattle.std.specs.Prelude.{ℕ, zero, suc, Bool, cond, not, ◌||◌, List, [], ◌∷◌, eqb, take, drop, Option}
+use Rattle.refusals.specs.declared.refusal.Refusal.{Refusal}
 use Rattle.chip.specs.Run.{Chip}
 use Rattle.board.specs.Chips.{piece_length, serial_length, sum, chips_of}
 use Rattle.board.specs.Checks.{is_own}
@@ -23,7 +24,7 @@ pub record Sent : Type 0 where
   pub chip : ℕ
   pub code : ℕ
 
-abbrev pub refusal_of : Held → Sent → ℕ
+abbrev pub refusal_of : Held → Sent → Option Refusal
 refusal_of h e = refusal h.serials h.slice h.board e.chip e.code
 
 -- one event; a refused one changes nothing, as its outcome says

@@ -1,9 +1,11 @@
 // The refusals that are found before any chip moves.
 ghost use Rattle.std.specs.Prelude.{◌≡◌};
 ghost use Rattle.board.specs.Checks.{is_own, no_board, checks};
+ghost use Rattle.supply.specs.Power.{checked};
 
 use crate::chips::{Board, MOST, together};
 use pins::sound::sound;
+use refusals::refusal::Refusal;
 
 // Whether the code is one of a chip's own lines: /CS or /HOLD.
 #[tactic(auto, unfolding(crate::specs::Checks::is_own))]
@@ -22,31 +24,36 @@ pub(crate) fn no_board(count: usize) -> bool
     (count == 0) | (MOST < count)
 }
 
-// 13, 14, 4, 2, 15, 5; 0 where none of them is given.
-#[tactic(auto, unfolding(crate::specs::Checks::checks))]
-pub(crate) fn checks(board: Board, len: usize, serials: usize, chip: usize, code: u64) -> u8
-    ensures { result ≡ checks board len serials chip code }
+// The refusals 13, 14, 4, 2, 15 and 5, in this order.
+pub(crate) fn checks(
+    board: Board,
+    len: usize,
+    serials: usize,
+    chip: usize,
+    code: u64,
+) -> Result<(), Refusal>
+    ensures { result ≡ checked (checks board len serials chip code) }
 {
     let count = board.count;
     if no_board(count) {
-        return 13;
+        return Err(Refusal::ChipCount);
     }
     if is_own(code) & (count <= chip) {
-        return 14;
+        return Err(Refusal::NoChip);
     }
     let chips = &board.chips[..count];
     if !chips.iter().all(|chip| sound(*chip)) {
-        return 4;
+        return Err(Refusal::Unsound);
     }
     let whole = together(chips);
     if len != whole.array {
-        return 2;
+        return Err(Refusal::ArrayLength);
     }
     if serials != whole.serials {
-        return 15;
+        return Err(Refusal::SerialLength);
     }
     if 12 <= code {
-        return 5;
+        return Err(Refusal::NoEvent);
     }
-    0
+    Ok(())
 }

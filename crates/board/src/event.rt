@@ -1,5 +1,5 @@
 // One event on the board.
-ghost use Rattle.std.specs.Prelude.{◌≡◌, ◌≤◌, ◌<◌, cond, length, true};
+ghost use Rattle.std.specs.Prelude.{◌≡◌, ◌≤◌, ◌<◌, None, Some, cond, length, true};
 ghost use Rattle.board.specs.Checks.{is_own};
 ghost use Rattle.board.specs.Chips.{pieces, serials_together, slice, states, together};
 ghost use Rattle.board.specs.Event.{every, at, moved, refusal_at};
@@ -11,11 +11,12 @@ use crate::chips::{Board, lengths_of, together};
 use crate::so::{BoardSo, board_so};
 use chip::event::event as chip_event;
 use pins::state::State;
+use refusals::refusal::Refusal;
 
 // The answer to an event on the board. "No note is given".
 #[derive(Clone, Copy)]
 pub struct BoardAnswer {
-    pub refusal: u8,
+    pub refusal: Option<Refusal>,
     pub so: BoardSo,
     pub board: Board,
 }
@@ -40,8 +41,14 @@ fn move_every(chips: &mut [State], array: &mut [u8], serials: &[u8], code: u64)
     }
 }
 
-// "an own line moves one chip and nothing of any other, bytes included". The chip's refusal, or 0.
-fn move_one(chips: &mut [State], array: &mut [u8], serials: &[u8], chip: usize, code: u64) -> u8
+// "an own line moves one chip and nothing of any other, bytes included": the chip may refuse.
+fn move_one(
+    chips: &mut [State],
+    array: &mut [u8],
+    serials: &[u8],
+    chip: usize,
+    code: u64,
+) -> Option<Refusal>
     requires few { length chips.old ≤ 8 }
     requires there { chip < length chips.old }
     requires whole_slice { together chips.old ≡ length array.old }
@@ -62,13 +69,19 @@ fn move_one(chips: &mut [State], array: &mut [u8], serials: &[u8], chip: usize, 
     answer.refusal
 }
 
-// Moves the chips that the line reaches: the refusal of the one that an own line moves, or 0.
-fn move_chips(chips: &mut [State], array: &mut [u8], serials: &[u8], chip: usize, code: u64) -> u8
+// Moves the chips that the line reaches. The one that an own line moves may refuse.
+fn move_chips(
+    chips: &mut [State],
+    array: &mut [u8],
+    serials: &[u8],
+    chip: usize,
+    code: u64,
+) -> Option<Refusal>
     requires few { length chips.old ≤ 8 }
     requires there { is_own code ≡ true → chip < length chips.old }
     requires whole_slice { together chips.old ≡ length array.old }
     requires whole_serials { serials_together chips.old ≡ length serials.now }
-    ensures refusal { result ≡ cond (is_own code) (refusal_at chip code (pieces chips.old array.old serials.now)) 0 }
+    ensures refusal { result ≡ cond (is_own code) (refusal_at chip code (pieces chips.old array.old serials.now)) None }
     ensures chips_after { chips.new ≡ states (moved chip code (pieces chips.old array.old serials.now)) }
     ensures array_after { array.new ≡ slice (moved chip code (pieces chips.old array.old serials.now)) }
 {
@@ -76,7 +89,7 @@ fn move_chips(chips: &mut [State], array: &mut [u8], serials: &[u8], chip: usize
         move_one(chips, array, serials, chip, code)
     } else {
         move_every(chips, array, serials, code);
-        0
+        None
     }
 }
 
@@ -85,14 +98,14 @@ fn move_chips(chips: &mut [State], array: &mut [u8], serials: &[u8], chip: usize
 pub fn event(board: Board, array: &mut [u8], serials: &[u8], chip: usize, code: u64) -> BoardAnswer
     ensures { BoardPromise serials.now array.old board chip code result array.new }
 {
-    let refusal = checks(board, array.len(), serials.len(), chip, code);
-    if refusal != 0 {
+    let checked = checks(board, array.len(), serials.len(), chip, code);
+    if let Err(refusal) = checked {
         return refused(refusal, board);
     }
     let count = board.count;
     let mut chips = board.chips;
     let refusal = move_chips(&mut chips[..count], array, serials, chip, code);
-    if refusal != 0 {
+    if let Some(refusal) = refusal {
         return refused(refusal, board);
     }
     let so = board_so(&chips[..count]);
@@ -101,9 +114,12 @@ pub fn event(board: Board, array: &mut [u8], serials: &[u8], chip: usize, code: 
 }
 
 // "a refused event changes no chip"; "SO reads released".
-fn refused(refusal: u8, board: Board) -> BoardAnswer
-    ensures { result ≡ record { refusal = refusal; so = Released; board = board } }
+fn refused(refusal: Refusal, board: Board) -> BoardAnswer
+    ensures { result ≡ record { refusal = Some refusal; so = Released; board = board } }
 {
-    let so = BoardSo::Released;
-    BoardAnswer { refusal, so, board }
+    BoardAnswer {
+        refusal: Some(refusal),
+        so: BoardSo::Released,
+        board,
+    }
 }

@@ -1,12 +1,14 @@
 // The board's power-up.
 ghost use Rattle.std.specs.Prelude.{◌≡◌, ◌≤◌, ◌++◌, length, drop};
 ghost use Rattle.parts.specs.Figures.{in_mask};
+ghost use Rattle.supply.specs.Power.{checked};
 ghost use Rattle.board.specs.Power.{together_asked, power_refusal, powered, power_up, spare};
 
 use crate::checks::no_board;
 use crate::chips::{Board, MOST, part_lengths};
 use parts::figures::{figure_of, is_part};
 use pins::state::State;
+use refusals::refusal::Refusal;
 use supply::power::power_up as chip_power_up;
 
 // A chip that is asked for: its part and its kept bits.
@@ -26,7 +28,7 @@ pub struct Plan {
 
 #[derive(Clone, Copy)]
 pub struct PoweredBoard {
-    pub refusal: u8,
+    pub refusal: Option<Refusal>,
     pub board: Board,
 }
 
@@ -51,25 +53,25 @@ fn together_asked(chips: &[Asked]) -> usize
         .sum()
 }
 
-#[tactic(auto, unfolding(crate::specs::Power::power_refusal))]
-fn power_refusal(plan: Plan, len: usize) -> u8
-    ensures { result ≡ power_refusal plan len }
+// The refusals 13, 1, 2 and 3, in this order.
+fn check_power(plan: Plan, len: usize) -> Result<(), Refusal>
+    ensures { result ≡ checked (power_refusal plan len) }
 {
     let count = plan.count;
     if no_board(count) {
-        return 13;
+        return Err(Refusal::ChipCount);
     }
     let chips = &plan.chips[..count];
     if !chips.iter().all(|asked| is_part(asked.part)) {
-        return 1;
+        return Err(Refusal::NoPart);
     }
     if len != together_asked(chips) {
-        return 2;
+        return Err(Refusal::ArrayLength);
     }
     if !chips.iter().all(|asked| in_mask(*asked)) {
-        return 3;
+        return Err(Refusal::KeptBits);
     }
-    0
+    Ok(())
 }
 
 // Each chip's own power-up, over its own piece of the slice.
@@ -93,14 +95,21 @@ fn power_each(asked: &[Asked], array: &[u8]) -> [State; MOST]
 pub fn power_up(plan: Plan, array: &[u8]) -> PoweredBoard
     ensures { result ≡ power_up plan array.now }
 {
-    let refusal = power_refusal(plan, array.len());
-    if refusal != 0 {
-        let chips = [State::at_rest(1, 0, false); MOST];
-        let board = Board { count: 0, chips };
-        return PoweredBoard { refusal, board };
+    match check_power(plan, array.len()) {
+        Ok(()) => {
+            let count = plan.count;
+            let chips = power_each(&plan.chips[..count], array);
+            PoweredBoard {
+                refusal: None,
+                board: Board { count, chips },
+            }
+        }
+        Err(refusal) => {
+            let chips = [State::at_rest(1, 0, false); MOST];
+            PoweredBoard {
+                refusal: Some(refusal),
+                board: Board { count: 0, chips },
+            }
+        }
     }
-    let count = plan.count;
-    let chips = power_each(&plan.chips[..count], array);
-    let board = Board { count, chips };
-    PoweredBoard { refusal, board }
 }

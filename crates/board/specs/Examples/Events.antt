@@ -9,6 +9,7 @@ use Rattle.pins.specs.Edges.{with_sck, with_si, with_wp, with_hold, with_stage}
 use Rattle.pins.specs.Levels.{at_rest}
 use Rattle.pins.specs.declared.hold.Hold.TheVariants.{LowCsLow, LowCsHigh}
 use Rattle.pins.specs.declared.state.State.{State}
+use Rattle.refusals.specs.Refusals.{number_or_0}
 use Rattle.chip.specs.Examples.Run.{same, state_numbers}
 use Rattle.board.specs.Event.{Outcome, event}
 use Rattle.board.specs.Power.{spare}
@@ -39,7 +40,7 @@ pub record Case : Type 0 where
 
 abbrev pub leaves : Case → Outcome → Bool
 leaves c o =
-    eqb o.refusal c.number && eqb (so_number o.so) c.so && eqb o.board.count c.after.count
+    eqb (number_or_0 o.refusal) c.number && eqb (so_number o.so) c.so && eqb o.board.count c.after.count
     && same (numbers_of o.board.chips) (numbers_of c.after.chips) && same o.slice (replicate c.len 0)
 
 abbrev pub all_leave : List Case → Bool

@@ -2,6 +2,7 @@
 use Rattle.std.specs.Prelude.{ℕ, Bool, true, ◌&&◌, List, [], ◌∷◌, ◌++◌, eqb, length, drop, replicate}
 use Rattle.pins.specs.Levels.{at_rest}
 use Rattle.pins.specs.declared.state.State.{State}
+use Rattle.refusals.specs.Refusals.{number_or_0}
 use Rattle.chip.specs.Examples.Run.{same}
 use Rattle.board.specs.Examples.Events.{board_of, numbers_of}
 use Rattle.board.specs.Power.{power_up}
@@ -33,7 +34,7 @@ starts qs len ss = record { plan = plan_of (length qs) qs; len = len; number = 0
 
 abbrev gives : Case → PoweredBoard → Bool
 gives c p =
-    eqb p.refusal c.number && eqb p.board.count c.board.count && same (numbers_of p.board.chips) (numbers_of c.board.chips)
+    eqb (number_or_0 p.refusal) c.number && eqb p.board.count c.board.count && same (numbers_of p.board.chips) (numbers_of c.board.chips)
 
 abbrev pub all_give : List Case → Bool
 all_give [] = true

@@ -1,6 +1,7 @@
 -- Runs of boards from power-up: what each event gave, and every byte of the slice at the end. Assumes nothing.
-use Rattle.std.specs.Prelude.{ℕ, ◌+◌, Bool, true, cond, ◌&&◌, List, [], ◌∷◌, ◌++◌, eqb, replicate, set}
+use Rattle.std.specs.Prelude.{ℕ, ◌+◌, Bool, true, cond, ◌&&◌, List, [], ◌∷◌, ◌++◌, eqb, replicate, set, is_none}
 use Rattle.trace.specs.Items.{clocked}
+use Rattle.refusals.specs.Refusals.{number_or_0}
 use Rattle.chip.specs.Examples.Run.{same}
 use Rattle.board.specs.Event.{Outcome, event}
 use Rattle.board.specs.Run.{Held, Sent, from_power_up}
@@ -21,7 +22,7 @@ byte value = shared (clocked value)
 -- what is told: SO where it is not released, and 100 more than each refusal
 abbrev told : Outcome → List ℕ → List ℕ
 told o more =
-    cond (eqb o.refusal 0) (cond (eqb (so_number o.so) 2) more (so_number o.so ∷ more)) ((100 + o.refusal) ∷ more)
+    cond (is_none o.refusal) (cond (eqb (so_number o.so) 2) more (so_number o.so ∷ more)) ((100 + number_or_0 o.refusal) ∷ more)
 
 pub record Ran : Type 0 where
   pub told : List ℕ

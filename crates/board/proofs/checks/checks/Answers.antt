@@ -12,6 +12,17 @@ use Rattle.board.proofs.checks.checks.Goals as goal
 pub shared_ref_as_front-chips : goal.shared_ref_as_front-chips
 shared_ref_as_front-chips c = few _ (sym c.no_board.ensures ∙ c.if-no_board.false)
 
+pub returns-then-no_board : goal.returns-then-no_board
+unfolding checks
+returns-then-no_board c = rw (sym c.no_board.ensures ∙ c.if-no_board.true)
+
+pub returns-then-is_own-count : goal.returns-then-is_own-count
+unfolding checks
+returns-then-is_own-count c =
+    let some : no_board c.args.board.count ≡ false = sym c.no_board.ensures ∙ c.if-no_board.false in
+    let gone : (is_own c.args.code && leb c.args.board.count c.args.chip) ≡ true = rw c.is_own.ensures at c.if-is_own-count.true in
+    rw (some, gone)
+
 pub returns-then-not-all : goal.returns-then-not-all
 unfolding checks
 returns-then-not-all c =

@@ -1,5 +1,5 @@
 -- The parts' lengths one by one; no piece is longer than the longest, so eight of them can be summed.
-use Rattle.std.proofs.Common.{arith, rules, sym, ◌∙◌, ◌<◌, ◌^◌, subst}
+use Rattle.std.proofs.Common.{arith, rules, ◌∙◌, ◌<◌, ◌^◌}
 use Rattle.std.specs.List.{sum_by}
 use Rattle.std.proofs.lemmas.Iterator.{YieldsList-from_slice, YieldsList-from_map}
 use Rattle.std.proofs.lemmas.Iterator.Consumers.{sum_by_from_yields_List, fits_by_from_yields_list}

@@ -8,10 +8,14 @@ use Rattle.board.proofs.PowerLaws.{parts_all, masked_all}
 use Rattle.board.specs.Checks.{no_board}
 use Rattle.board.specs.Power.{asked, all_parts, together_asked, all_masked, power_refusal}
 use Rattle.board.specs.declared.power.Asked.{Asked}
-use Rattle.board.proofs.power.power_refusal.Goals as goal
+use Rattle.board.proofs.power.check_power.Goals as goal
 
 pub shared_ref_as_front-chips : goal.shared_ref_as_front-chips
 shared_ref_as_front-chips c = few _ (sym c.no_board.ensures ∙ c.if-no_board.false)
+
+pub returns-then-no_board : goal.returns-then-no_board
+unfolding power_refusal
+returns-then-no_board c = rw (sym c.no_board.ensures ∙ c.if-no_board.true)
 
 pub returns-then-not-all : goal.returns-then-not-all
 unfolding power_refusal
