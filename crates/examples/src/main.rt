@@ -14,257 +14,189 @@
 #![tactic(auto)]
 
 use chip::event::event;
+use console::{read, say, write};
 use pins::state::State;
+use refusals::refusal::{Refusal, number_or_0};
 use select::notes::{Level, Note};
 use stages::stage::{Line, Stage};
 use supply::power::{fill, fill_with, power_up};
 
-// Standard input.
-const STDIN_FILENO: i32 = 0;
+// The longest input.
+const INPUT: usize = 16384;
 
-// Standard output.
-const STDOUT_FILENO: i32 = 1;
+// The most bytes of an array that are lent.
+const MOST: usize = 16640;
 
-// The line's letter, 0 at its start; the number so far; what is set for the calls; and the chip.
-#[derive(Clone, Copy)]
+// What is set for the calls, the chip, and what is lent to it.
+#[derive(Drop)]
 struct Desk {
-    letter: u8,
-    digits: bool,
-    number: u64,
     kept: u64,
     len: usize,
-    serial: usize,
+    own: usize,
     byte: u8,
     chip: State,
+    array: [u8; MOST],
+    serial: [u8; 16],
 }
 
 fn main() {
-    let mut text = [0u8; 16384];
-    let mut array = [0u8; 16640];
-    let mut serial = [0u8; 16];
-    let n = io::read_full(STDIN_FILENO, &mut text);
-    calls(&text[..n], &mut array, &mut serial);
-}
-
-fn calls(text: &[u8], array: &mut [u8], serial: &mut [u8]) {
+    let mut text = [0u8; INPUT];
+    let n = read(&mut text);
     let mut desk = Desk {
-        letter: 0,
-        digits: false,
-        number: 0,
         kept: 0,
         len: 512,
-        serial: 0,
+        own: 0,
         byte: 0,
         chip: State::at_rest(1, 0, false),
+        array: [0u8; MOST],
+        serial: [0u8; 16],
     };
-    let mut i = 0;
-    while i < text.len() {
-        desk = take(desk, array, serial, text[i]);
-        i += 1;
+    for line in text[..n].split_inclusive(|byte| *byte == b'\n') {
+        desk.line(line);
     }
 }
 
-// After one more byte of the input.
-fn take(desk: Desk, array: &mut [u8], serial: &mut [u8], b: u8) -> Desk {
-    let letter = if desk.letter == 0 { b } else { desk.letter };
-    if letter == b'=' {
-        say(&[b]);
+// The value of a hex digit, in capitals.
+fn digit(byte: u8) -> Option<u64> {
+    match byte {
+        b'0'..=b'9' => Some(u64::from(byte - b'0')),
+        b'A'..=b'F' => Some(u64::from(byte - b'A' + 10)),
+        _ => None,
     }
-    let next = if b == b'\n' { 0 } else { letter };
-    let digit = digit(b);
-    if (desk.letter == 0) | (letter == b'#') | (letter == b'=') {
-        return Desk {
-            letter: next,
-            ..desk
+}
+
+impl Desk {
+    // A comment, a title, or a letter with numbers. Bytes 00 before the letter are passed over.
+    fn line(&mut self, line: &[u8]) {
+        let zeros = line.iter().take_while(|byte| **byte == 0).count();
+        let line = &line[zeros..];
+        let Some((letter, words)) = line.split_first() else {
+            return;
         };
+        match *letter {
+            b'#' => {}
+            b'=' => write(line),
+            letter => {
+                for word in words.split_inclusive(|byte| digit(*byte).is_none()) {
+                    self.word(letter, word);
+                }
+            }
+        }
     }
-    if digit < 16 {
-        return Desk {
-            digits: true,
-            number: (desk.number << 4) | digit,
-            ..desk
+
+    // The call of a number, which ends with a byte that is no digit.
+    fn word(&mut self, letter: u8, word: &[u8]) {
+        let Some((end, digits)) = word.split_last() else {
+            return;
         };
+        if digits.is_empty() || digit(*end).is_some() {
+            return;
+        }
+        let n = digits
+            .iter()
+            .fold(0, |n, byte| (n << 4) | digit(*byte).unwrap_or(0));
+        self.call(letter, n);
     }
-    let after = lend(desk, array, serial);
-    Desk {
-        letter: next,
-        digits: false,
-        number: 0,
-        ..after
-    }
-}
 
-// The value of a hex digit, and 16 of any other byte.
-fn digit(b: u8) -> u64 {
-    match b {
-        b'0'..=b'9' => (b - b'0') as u64,
-        b'A'..=b'F' => (b - b'A' + 10) as u64,
-        _ => 16,
-    }
-}
-
-// At a number's end: its call, over as many bytes of the array and of the serial number as are lent.
-fn lend(desk: Desk, array: &mut [u8], serial: &mut [u8]) -> Desk {
-    let len = desk.len;
-    let own = desk.serial;
-    if len <= array.len() {
-        if own <= serial.len() {
-            return call(desk, &mut array[..len], &mut serial[..own], desk.number);
+    // A letter's call with one number, over as many bytes of the array and of the serial number as are lent.
+    fn call(&mut self, letter: u8, n: u64) {
+        let Some(array) = self.array.get_mut(..self.len) else {
+            return;
+        };
+        let Some(serial) = self.serial.get_mut(..self.own) else {
+            return;
+        };
+        match letter {
+            b'k' => self.kept = n,
+            b'l' => self.len = n as usize,
+            b's' => self.own = n as usize,
+            b'b' => self.byte = (n % 256) as u8,
+            b'w' => put_first(array, n),
+            b'n' => put_first(serial, n),
+            b'r' => tell_byte(array, n as usize),
+            b'f' => tell_fill(fill(n, array)),
+            b'F' => tell_fill(fill_with(n, array, self.byte)),
+            b'u' => self.chip = tell_power_up(array, n, self.kept),
+            b'v' => self.chip = event(self.chip, array, serial, n).state,
+            b'e' => self.chip = tell_event(self.chip, array, serial, n),
+            b'S' => {
+                self.chip.stage = Stage::Code {
+                    wp: Line::Up,
+                    shift: (n % 65536) as u16,
+                };
+            }
+            _ => write(b"? no letter\n"),
         }
-    }
-    desk
-}
-
-// A letter's call with one number, if there was a digit.
-fn call(desk: Desk, array: &mut [u8], serial: &mut [u8], n: u64) -> Desk {
-    if !desk.digits {
-        return desk;
-    }
-    let letter = desk.letter;
-    match letter {
-        b'k' => Desk { kept: n, ..desk },
-        b'l' => Desk {
-            len: n as usize,
-            ..desk
-        },
-        b's' => Desk {
-            serial: n as usize,
-            ..desk
-        },
-        b'b' => Desk {
-            byte: (n % 256) as u8,
-            ..desk
-        },
-        b'w' => {
-            put_first(array, n);
-            desk
-        }
-        b'n' => {
-            put_first(serial, n);
-            desk
-        }
-        b'r' => {
-            tell_byte(array, n as usize);
-            desk
-        }
-        b'f' => {
-            tell_fill(fill(n, array));
-            desk
-        }
-        b'F' => {
-            tell_fill(fill_with(n, array, desk.byte));
-            desk
-        }
-        _ => Desk {
-            chip: move_chip(desk, array, serial, n),
-            ..desk
-        },
     }
 }
 
 // The lender writes the first byte of a slice.
 fn put_first(slice: &mut [u8], n: u64) {
-    if 0 < slice.len() {
-        slice[0] = (n % 256) as u8;
+    if let Some(first) = slice.first_mut() {
+        *first = (n % 256) as u8;
     }
 }
 
-// A letter that moves the chip, or puts it into another state.
-fn move_chip(desk: Desk, array: &mut [u8], serial: &[u8], n: u64) -> State {
-    let chip = desk.chip;
-    let letter = desk.letter;
-    match letter {
-        b'u' => tell_power_up(array, n, desk.kept),
-        b'v' => {
-            let answer = event(chip, array, serial, n);
-            answer.state
-        }
-        b'e' => tell_event(chip, array, serial, n),
-        b'S' => State {
-            stage: Stage::Code {
-                wp: Line::Up,
-                shift: (n % 65536) as u16,
-            },
-            ..chip
-        },
-        _ => {
-            say(b"? no letter\n");
-            chip
-        }
-    }
-}
-
-fn say(text: &[u8]) {
-    io::write_all(STDOUT_FILENO, text);
-}
-
-fn say_number(text: &[u8], n: u64) {
-    io::write_all(STDOUT_FILENO, text);
-    io::print_decimal(STDOUT_FILENO, n);
+fn say_refused(word: &[u8], refusal: Option<Refusal>) {
+    say(word, u64::from(number_or_0(refusal)));
 }
 
 fn say_level(level: Level) {
     match level {
-        Level::Low => say(b", SO 0"),
-        Level::High => say(b", SO 1"),
-        Level::Released => say(b", SO released"),
+        Level::Low => write(b", SO 0"),
+        Level::High => write(b", SO 1"),
+        Level::Released => write(b", SO released"),
     }
 }
 
 // The other notes are left to the computed examples of the crate chip.
 fn say_note(note: Note) {
     match note {
-        Note::Nothing => say(b", nothing"),
+        Note::Nothing => write(b", nothing"),
         Note::Stored(at, byte) => {
-            say_number(b", stored ", at as u64);
-            say_number(b" ", byte as u64);
+            say(b", stored ", at as u64);
+            say(b" ", u64::from(byte));
         }
-        Note::PowerLost => say(b", power lost"),
-        _ => say(b", another note"),
+        Note::PowerLost => write(b", power lost"),
+        _ => write(b", another note"),
     }
 }
 
 // A line for an event, and the state after it.
 fn tell_event(chip: State, array: &mut [u8], serial: &[u8], code: u64) -> State {
     let answer = event(chip, array, serial, code);
-    let so = answer.so;
-    let note = answer.note;
-    say_number(b"event ", code);
-    say_number(b": refused ", answer.refusal as u64);
-    say_level(so);
-    say_note(note);
-    say(b"\n");
+    say(b"event ", code);
+    say_refused(b": refused ", answer.refusal);
+    say_level(answer.so);
+    say_note(answer.note);
+    write(b"\n");
     answer.state
 }
 
-fn tell_fill(refusal: u8) {
-    say_number(b"fill: refused ", refusal as u64);
-    say(b"\n");
+fn tell_fill(filled: Result<(), Refusal>) {
+    say_refused(b"fill: refused ", filled.err());
+    write(b"\n");
 }
 
 // A line for a power-up, and the state after it.
 fn tell_power_up(array: &[u8], part: u64, kept: u64) -> State {
     let powered = power_up(part, kept, array);
     let chip = powered.state;
-    say_number(b"power-up: refused ", powered.refusal as u64);
-    say_number(b", part ", chip.part as u64);
-    say_number(b" kept ", chip.kept as u64);
+    say_refused(b"power-up: refused ", powered.refusal);
+    say(b", part ", u64::from(chip.part));
+    say(b" kept ", u64::from(chip.kept));
     if chip.power {
-        say(b" on\n");
+        write(b" on\n");
     } else {
-        say(b" off\n");
+        write(b" off\n");
     }
     chip
 }
 
-fn wide(byte: u8) -> u64 {
-    byte as u64
-}
-
 fn tell_byte(array: &[u8], at: usize) {
-    if at < array.len() {
-        say_number(b"byte ", at as u64);
-        say_number(b" is ", wide(array[at]));
+    if let Some(byte) = array.get(at) {
+        say(b"byte ", at as u64);
+        say(b" is ", u64::from(*byte));
     }
-    say(b"\n");
+    write(b"\n");
 }
