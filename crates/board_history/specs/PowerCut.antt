@@ -2,7 +2,7 @@
 -- sees are `seen k`, its run among the others is its own run over those. Assumes nothing.
 use Prim.Native.Nat.{ℕ, ◌/◌, ◌<◌, ◌≤◌}
 use Rattle.std.proofs.Common.{arith, sym, subst, ◌∙◌, lit≤, eqb-true}
-use Rattle.std.specs.Prelude.{Bool, true, false, cond, ◌||◌, ◌≡◌, refl, eqb, leb, length, get_or, take}
+use Rattle.std.specs.Prelude.{Bool, true, false, cond, ◌||◌, ◌≡◌, refl, eqb, leb, length, get_or, take, None}
 use mathlib.Core.List.{List, [], ◌∷◌, ◌++◌}
 use Rattle.std.proofs.Math.Path.{ap}
 use Rattle.std.proofs.lemmas.Bool.{lt-leb}
@@ -59,7 +59,7 @@ return j = record { chip = j; code = 11 }
 
 -- chip k of the board that plan p powers up over the slice xs, lent these serials, and the events es
 module _
-    (p : Plan) (xs serials : List ℕ) (es : List Sent) (accepted : (power_up p xs).refusal ≡ 0) (numbered : serials_asked (asked p) ≡ length serials)
+    (p : Plan) (xs serials : List ℕ) (es : List Sent) (accepted : (power_up p xs).refusal ≡ None) (numbered : serials_asked (asked p) ≡ length serials)
     (eight : length p.chips ≡ 8) (k : ℕ) (there : k < p.count) (a : Asked) (d : Chip)
   where
     -- its part, its kept bits, its piece of the slice at power-up and its serial number
@@ -89,7 +89,7 @@ module _
         run_seen start good k (subst (λ (b : Board). k < b.count) (sym (powered_board p xs accepted)) there) d fs
         ∙ ap (λ (c : Chip). chip-run.run c (seen k fs)) (powered_chip p xs accepted eight serials k a d there).0
 
-    fine : (chip.power_up part kept piece).refusal ≡ 0
+    fine : (chip.power_up part kept piece).refusal ≡ None
     fine = (powered_chip p xs accepted eight serials k a d there).1
 
     takes : fits_serial part (length serial) ≡ true
