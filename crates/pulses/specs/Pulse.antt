@@ -1,5 +1,5 @@
 -- Pulses of SCK on the bench, one after the other (document 02, Wish 7). Assumes nothing.
-use Rattle.std.specs.Prelude.{ℕ, ◌≡◌, List, []}
+use Rattle.std.specs.Prelude.{ℕ, None, ◌≡◌, List, []}
 use Rattle.trace.specs.Items.{run_events}
 use Rattle.turns.specs.Bench.{Bench, after_events}
 use Rattle.turns.specs.declared.stand.Stand.{Stand}
@@ -11,7 +11,7 @@ pulsed n b = after_events b (run_events n)
 
 -- a bench that runs on, with no text since
 abbrev pub standing : Stand → List ℕ → List ℕ → Bench
-standing stand array shown = record { refusal = 0; stand = stand; array = array; shown = shown; text = [] }
+standing stand array shown = record { refusal = None; stand = stand; array = array; shown = shown; text = [] }
 
 abbrev pub skipped : Stand → ℕ → Skipped
 skipped stand left = record { stand = stand; left = left }

@@ -1,7 +1,7 @@
 -- One pulse: what it does where no select sees it, and in an open select, whatever its stage. Assumes nothing.
-use Rattle.std.specs.Prelude.{ℕ, zero, suc, ◌+◌, ◌≡◌, Bool, not, ◌&&◌, List, length}
+use Rattle.std.specs.Prelude.{ℕ, zero, suc, ◌+◌, ◌≡◌, Bool, cond, not, ◌&&◌, List, [], ◌∷◌, length, None, is_none, Ok}
 use Rattle.std.proofs.Math.Path.{refl, ap}
-use Rattle.std.proofs.Common.{sym, ◌∙◌, zero-add, suc-add, eq-eqb}
+use Rattle.std.proofs.Common.{sym, ◌∙◌, zero-add, suc-add}
 use Rattle.std.proofs.Math.Bool.{true, false}
 use Rattle.parts.specs.Figures.{figure_of, is_part, in_mask, fits_part}
 use Rattle.parts.specs.FigureLaws.{fair}
@@ -27,11 +27,11 @@ use Rattle.pins.specs.declared.hold.Hold.TheVariants.{High, LowCsLow, LowCsHigh}
 use Rattle.pins.specs.declared.state.State.{State}
 use Rattle.report.specs.Record.{risen, shown_after, noted}
 use Rattle.report.specs.declared.record.Record.{Record}
-use Rattle.step.specs.Step.{accepted, live, step, written}
+use Rattle.step.specs.Step.{live, step, written}
 use Rattle.chip.specs.Event.{answer_of, checks, event}
 use Rattle.chip.proofs.EventLaws.{event_steps, checks_none}
 use Rattle.step.specs.StepLaws.{written_length}
-use Rattle.turns.specs.Bench.{Bench, after_answer, replay_serial, after_event}
+use Rattle.turns.specs.Bench.{Bench, after_answer, replay_serial, after_event, after_events}
 use Rattle.turns.specs.EventLaws.{serial_fits}
 use Rattle.turns.specs.Stand.{after, clocked_by, shown_by, closes}
 use Rattle.turns.specs.declared.stand.Stand.{Stand}
@@ -65,7 +65,7 @@ closes_not true = refl
 closes_not false = refl
 
 pub unseen : (s next : State) (code : ℕ) (selects : ℕ) (told : Record) (xs os : List ℕ)
-    → event replay_serial xs s code ≡ answer_of (accepted (silent next)) → is_open next ≡ is_open s → sees_rise s code ≡ false
+    → event replay_serial xs s code ≡ answer_of s (Ok (silent next)) → is_open next ≡ is_open s → sees_rise s code ≡ false
     → after_event (standing (stand_of s selects told) xs os) code ≡ standing (stand_of next selects told) xs os
 unfolding after_event after clocked_by shown_by closes written noted
 unseen s next code selects told xs os is level none =
@@ -84,20 +84,24 @@ no_rise_lem s = and_no (s.power && hold_high s.hold && is_open s && not s.sck)
 -- ---- an event on a chip and an array that the checks let through
 
 module _ (s : State) (xs : List ℕ) (safe : sound s ≡ true) (fits : fits_part s.part (length xs) ≡ true) where
-  steps : (code : ℕ) → checks s (length xs) (length replay_serial) code ≡ 0
-      → event replay_serial xs s code ≡ answer_of (step (figure_of s.part) replay_serial xs s code)
-  steps code none = event_steps replay_serial xs s code (eq-eqb _ _ none)
+  steps : (code : ℕ) → checks s (length xs) (length replay_serial) code ≡ None
+      → event replay_serial xs s code ≡ answer_of s (step (figure_of s.part) replay_serial xs s code)
+  steps code none = event_steps replay_serial xs s code none
 
-  up : event replay_serial xs s 3 ≡ answer_of (step (figure_of s.part) replay_serial xs s 3)
+  up : event replay_serial xs s 3 ≡ answer_of s (step (figure_of s.part) replay_serial xs s 3)
   up = steps 3 (checks_none replay_serial xs s 3 safe fits (serial_fits s.part) refl)
 
-  down : event replay_serial xs s 2 ≡ answer_of (step (figure_of s.part) replay_serial xs s 2)
+  down : event replay_serial xs s 2 ≡ answer_of s (step (figure_of s.part) replay_serial xs s 2)
   down = steps 2 (checks_none replay_serial xs s 2 safe fits (serial_fits s.part) refl)
 
 -- two events that are not refused are a pulse
-pulse_by : (b c d : Bench) → b.refusal ≡ 0 → c.refusal ≡ 0 → after_event b 3 ≡ c → after_event c 2 ≡ d → pulsed 1 b ≡ d
+pulse_by : (b c d : Bench) → b.refusal ≡ None → c.refusal ≡ None → after_event b 3 ≡ c → after_event c 2 ≡ d → pulsed 1 b ≡ d
 unfolding pulsed
-pulse_by b c d p q up down = rw (eq-eqb _ _ p, up, eq-eqb _ _ q, down)
+pulse_by b c d p q up down =
+    ap (λ (v : Bool). after_events (cond v (after_event b 3) b) (2 ∷ [])) (ap is_none p)
+    ∙ ap (λ (x : Bench). after_events x (2 ∷ [])) up
+    ∙ ap (λ (v : Bool). cond v (after_event c 2) c) (ap is_none q)
+    ∙ down
 
 -- ---- nothing is seen: power off, hold, no select
 
@@ -188,11 +192,11 @@ module _ (part kept : ℕ) (si wp : Line) (latch : Bool) (named : is_part part �
         ap (λ (r : Risen). sound_stage (figure_of part) r.stage) (sym rises)
         ∙ rise_sound (figure_of part) (fair part named) sees stage safe
 
-    raised : event replay_serial xs (open_chip false stage) 3 ≡ answer_of (accepted (record { state = open_chip true next; note = note }))
+    raised : event replay_serial xs (open_chip false stage) 3 ≡ answer_of (open_chip false stage) (Ok (record { state = open_chip true next; note = note }))
     unfolding step live sck_rise
     raised =
         up (open_chip false stage) xs (sound_at false stage safe) fits
-        ∙ ap (λ (r : Risen). answer_of (accepted (rose (open_chip false stage) r))) rises
+        ∙ ap (λ (r : Risen). answer_of (open_chip false stage) (Ok (rose (open_chip false stage) r))) rises
 
     clocked : Record
     clocked = noted (risen told (is_up si) (stage_level stage)) note
@@ -210,7 +214,7 @@ module _ (part kept : ℕ) (si wp : Line) (latch : Bool) (named : is_part part �
     second =
         unseen (open_chip true next) (open_chip false last) 2 selects clocked (written note xs) shows
         (down (open_chip true next) (written note xs) (sound_at true next next_safe) (rw (written_length note xs) fits)
-        ∙ ap (λ (s : Stage). answer_of (accepted (silent (open_chip false s)))) falls)
+        ∙ ap (λ (s : Stage). answer_of (open_chip true next) (Ok (silent (open_chip false s)))) falls)
         (rw (open2, open3)) (no_rise_lem (open_chip true next))
 
     -- a rise, what its note stores, a fall; the record takes SI and SO as they stood before

@@ -1,6 +1,6 @@
 -- A WRITE by whole bytes: SI stands, so eight pulses write the byte 00 or FF at the address and step it. Assumes nothing.
 use Prim.Native.Nat.{ℕ, zero, suc, ◌+◌, ◌*◌, ◌%◌, ◌<◌, ◌≤◌, zero-le}
-use Rattle.std.specs.Prelude.{◌≡◌, Bool, cond, not, ◌&&◌, ◌||◌, List, eqb, leb, ltb, length, set}
+use Rattle.std.specs.Prelude.{◌≡◌, Bool, cond, not, ◌&&◌, ◌||◌, List, eqb, leb, ltb, length, set, Result, Ok, Err}
 use Rattle.std.proofs.Math.Path.{refl, ap}
 use Rattle.std.proofs.Common.{sym, ◌∙◌, add-zero, mod-lt, add-one}
 use Rattle.std.proofs.Math.Bool.{true, false}
@@ -14,7 +14,6 @@ use Rattle.parts.specs.Guards.{first_protected, may_store}
 use Rattle.parts.specs.declared.figures.Figure.{Figure}
 use Rattle.parts.specs.declared.guards.Reason.{Reason}
 use Rattle.parts.specs.declared.guards.Reason.TheVariants.{LatchOff, Protect, Block}
-use Rattle.parts.specs.declared.guards.Verdict as verdict
 use Rattle.stages.specs.Address.{next_address}
 use Rattle.stages.specs.Bits.{no_bits, low_bit, take_bit}
 use Rattle.stages.specs.Last.{last_by}
@@ -50,16 +49,16 @@ use Rattle.pulses.specs.FillLaws.{put_length}
 abbrev why : Figure → Bool → Bool → Reason
 why f latch wp = cond (not latch) LatchOff (cond (f.guards_array && not wp) Protect Block)
 
-abbrev judged : Bool → Reason → verdict.Verdict
-judged v reason = cond v verdict.TheVariants.Allowed (verdict.TheVariants.HeldBack reason)
+abbrev judged : Bool → Reason → Result (Unit {0}) Reason
+judged v reason = cond v (Ok tt) (Err reason)
 
 verdict_is : (f : Figure) (latch : Bool) (kept : ℕ) (wp : Bool) (at : ℕ) → may_store f latch kept wp at ≡ judged (ltb at (allowed f latch kept wp)) (why f latch wp)
 unfolding may_store allowed
 verdict_is f latch kept wp at = go (not latch) (f.guards_array && not wp) (leb (first_protected f kept) at) refl
   where
     go : (a b c : Bool) → leb (first_protected f kept) at ≡ c
-        → cond a (verdict.TheVariants.HeldBack LatchOff) (cond b (verdict.TheVariants.HeldBack Protect)
-        (cond c (verdict.TheVariants.HeldBack Block) verdict.TheVariants.Allowed))
+        → cond a (Err LatchOff) (cond b (Err Protect)
+        (cond c (Err Block) (Ok tt)))
         ≡ judged (ltb at (cond a 0 (cond b 0 (first_protected f kept)))) (cond a LatchOff (cond b Protect Block))
     go true b c e = rw (le-ltb at 0 zero-le)
     go false true c e = rw (le-ltb at 0 zero-le)

@@ -35,7 +35,7 @@ const MOST: u64 = 0xFFFF_FFFF_FFFF_FFFF;
 fn has_room(count: u64, more: u64) -> bool
     ensures { result ≡ room count more }
 {
-    if more <= MOST - count { true } else { false }
+    more <= MOST - count
 }
 
 // Whether the op-code is whole and no count stops within so many pulses.
