@@ -1,6 +1,6 @@
 -- What one READ adds to the counters (document 02, Wish 9), over arrays that may be others from call to call and any counters. Assumes
 -- nothing.
-use Rattle.std.specs.Prelude.{ℕ, ◌+◌, ◌*◌, ◌-◌, ◌/◌, ◌<◌, ◌≤◌, Bool, true, false, ◌||◌, ◌≡◌, eqb, length}
+use Rattle.std.specs.Prelude.{ℕ, ◌+◌, ◌*◌, ◌-◌, ◌/◌, ◌<◌, ◌≤◌, Bool, true, false, ◌||◌, ◌≡◌, eqb, length, sum}
 use Rattle.std.proofs.Common.{arith, ◌∙◌, eq-eqb}
 use mathlib.Core.List.{List, [], ◌∷◌, map}
 use Rattle.std.proofs.Math.Path.{refl, sym, ap, subst}
@@ -34,7 +34,7 @@ use Rattle.history.proofs.Laws.Step.{on, wire_of, chip_of}
 use Rattle.history.proofs.Laws.Worn.{touched_at, rows_at, rows_from, rows_now, finished, rows_next, places_below}
 use Rattle.wear_history.specs.Formula.{formula}
 use Rattle.wear_history.specs.Laws.Counters.{sum_all, add_append}
-use Rattle.wear_history.specs.Totals.{sum, NoneFull}
+use Rattle.wear_history.specs.Totals.{NoneFull}
 use Rattle.wear_history.specs.Laws.Lent.{Reads, soon, lent, over, reads_rows, reads_next, moment_lent, rows_lent}
 use Rattle.wear_history.specs.Laws.Moments.{one_counted, turned_rows}
 use Rattle.wear_history.specs.Sum.{count_of, cycles_below}

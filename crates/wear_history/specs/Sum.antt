@@ -1,11 +1,12 @@
 -- The sum of all counters (document 02, Wish 9). Assumes nothing.
-use Rattle.std.specs.Prelude.{ℕ, zero, suc, ◌+◌, ◌*◌, ◌/◌, ◌<◌, Bool, cond, ◌≡◌, refl, eqb, replicate, None}
+use Rattle.std.specs.Prelude.{ℕ, ◌+◌, ◌*◌, ◌/◌, ◌<◌, Bool, cond, ◌≡◌, eqb, replicate, sum, None}
 use Rattle.std.proofs.Math.Nat.{zero-add, div-eq_of_eq-mul_left}
 use Rattle.std.proofs.Common.{div-lt_iff_lt-mul, ◌∙◌, arith}
 use Rattle.std.proofs.Math.Bool.{true, false}
 use mathlib.Core.List.{List, [], ◌∷◌}
 use Rattle.std.proofs.Math.Path.{ap}
 use Rattle.std.proofs.Math.ListN.{length, length-replicate}
+use Rattle.std.proofs.lemmas.List.Folds.{sum_by-replicate}
 use Rattle.parts.specs.FigureLaws.{fair, Rowed, unrowed, rowed}
 use Rattle.parts.specs.Figures.{figure_of, fits_serial}
 use Rattle.parts.specs.declared.figures.Figure.{Figure}
@@ -19,7 +20,7 @@ use Rattle.history.specs.Rows.{changes, cycles, touched, span_rows, rows_of, row
 use Rattle.history.specs.Transfers.{Span, transfer, cut}
 use Rattle.history.proofs.Laws.Worn.{AllBelow, below_append, touched_below}
 use Rattle.wear_history.specs.Laws.Counters.{sum_all}
-use Rattle.wear_history.specs.Totals.{sum, NoneFull}
+use Rattle.wear_history.specs.Totals.{NoneFull}
 use Rattle.wear_history.specs.Counted.{counters_told}
 
 -- every row that the history names is one of the array's
@@ -52,9 +53,7 @@ module _ (f : Figure) (count : ℕ) (some : 0 < f.row) (whole : f.size ≡ count
 
 -- counters at 0
 sum_zeros : (n : ℕ) → sum (replicate n 0) ≡ 0
-unfolding sum
-sum_zeros zero = refl
-sum_zeros (suc n) = ap (λ (k : ℕ). 0 + k) (sum_zeros n)
+sum_zeros n = omega (arith, sum_by-replicate (λ (k : ℕ). k) n 0)
 
 -- as many rows as counters
 pub count_of : (f : Figure) → Rowed f.size f.row → 0 < f.row → (count : ℕ) × ((f.size ≡ count * f.row) × (row_count f ≡ count))

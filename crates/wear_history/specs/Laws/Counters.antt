@@ -1,9 +1,10 @@
 -- Counters, one row after the other: rows in two pieces; the sum grows by one for each row where none is full. Assumes nothing.
-use Rattle.std.specs.Prelude.{ℕ, zero, suc, ◌+◌, ◌<◌, Bool, true, false, cond, List, [], ◌∷◌, ◌++◌, ◌≡◌, refl, eqb, get_or, length}
-use Rattle.std.proofs.Common.{add_assoc, add-zero, arith, sym, ap, ◌∙◌, length-set, ne_eqb}
+use Rattle.std.specs.Prelude.{ℕ, zero, suc, ◌+◌, ◌<◌, Bool, true, false, cond, List, [], ◌∷◌, ◌++◌, ◌≡◌, refl, eqb, get_or, length, sum}
+use Rattle.std.proofs.Common.{add-zero, arith, sym, ap, ◌∙◌, length-set, ne_eqb}
+use Rattle.std.proofs.lemmas.List.Sums.{sum_by-cons}
 use Rattle.wear.specs.Count.{full, one_more, add_one, add_all}
 use Rattle.history.proofs.Laws.Worn.{AllBelow}
-use Rattle.wear_history.specs.Totals.{sum, NoneFull}
+use Rattle.wear_history.specs.Totals.{NoneFull}
 
 pub add_append : (counters rows more : List ℕ) → add_all counters (rows ++ more) ≡ add_all (add_all counters rows) more
 unfolding add_all
@@ -31,15 +32,15 @@ unfolding add_all
 none_first counters [] p = p
 none_first counters (row ∷ rows) p = none_before counters row (none_first (add_one counters row) rows p)
 
+sum_cons : (count : ℕ) (counters : List ℕ) → sum (count ∷ counters) ≡ count + sum counters
+sum_cons count counters = sum_by-cons (λ (k : ℕ). k) count counters
+
 sum_one : (counters : List ℕ) (row : ℕ) → row < length counters → NoneFull counters → sum (add_one counters row) ≡ sum counters + 1
-unfolding sum
 sum_one [] row h p = absurd (omega arith)
-sum_one (count ∷ counters) zero h p = ap (λ (k : ℕ). k + sum counters) (more_is count p.0) ∙ shift count (sum counters)
-  where
-    shift : (a b : ℕ) → a + 1 + b ≡ a + b + 1
-    shift a b = omega arith
+sum_one (count ∷ counters) zero h p =
+    omega (arith, sum_cons (one_more count) counters, sum_cons count counters, more_is count p.0)
 sum_one (count ∷ counters) (suc row) h p =
-    ap (λ (k : ℕ). count + k) (sum_one counters row (omega arith) p.1) ∙ sym (add_assoc count (sum counters) 1)
+    omega (arith, sum_cons count (add_one counters row), sum_cons count counters, sum_one counters row (omega arith) p.1)
 
 -- each of these rows added one
 pub sum_all :
