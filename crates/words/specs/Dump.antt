@@ -1,5 +1,6 @@
 -- The array at the end: rows of 16 bytes, without the rows that are fresh, FF. Assumes nothing.
-use Rattle.std.specs.Prelude.{ℕ, zero, suc, ◌+◌, ◌*◌, ◌/◌, Bool, true, cond, ◌&&◌, List, [], ◌∷◌, ◌++◌, eqb, length, take, drop}
+use Rattle.std.specs.Prelude.{ℕ, zero, suc, ◌+◌, ◌*◌, ◌/◌, Bool, cond, List, [], ◌∷◌, ◌++◌, eqb, length, take, drop}
+use Rattle.std.specs.List.{list_all}
 use Rattle.supply.specs.Power.{fresh}
 use Rattle.report.specs.Text.{ascii, hex}
 use Rattle.words.specs.Words.{address}
@@ -9,8 +10,7 @@ row_bytes = 16
 
 -- every byte is that of a fresh array
 unfoldable pub all_fresh : List ℕ → Bool
-all_fresh [] = true
-all_fresh (b ∷ bs) = eqb b fresh && all_fresh bs
+all_fresh bytes = list_all (λ b. eqb b fresh) bytes
 
 -- bytes in hex, a space before each
 unfoldable pub spaced_byte : ℕ → List ℕ

@@ -1,4 +1,3 @@
-pub mod Prints
 pub mod Words
 pub mod Lines
 pub mod Changes

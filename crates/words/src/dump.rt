@@ -1,89 +1,73 @@
 // The array at the end: rows of 16 bytes, without the rows that are fresh.
-ghost use Rattle.std.specs.Prelude.{◌≡◌, ◌*◌, ◌≤◌, length};
-ghost use Rattle.turns.specs.Page.{page_of};
-ghost use Rattle.words.specs.Dump.{all_fresh, spaced_byte, spaced, row_text, rows_text, array_text};
-ghost use Rattle.words.specs.Prints.{Prints};
+ghost use Rattle.std.specs.Prelude.{◌≡◌, ◌/◌, length};
+ghost use Rattle.words.specs.Dump.{row_bytes, all_fresh, spaced_byte, spaced, row_text, rows_text, array_text};
+ghost use Rattle.turns.specs.Prints.{Prints};
 
-use crate::page::{print, print_address, print_hex};
+use crate::page::{print_address, print_hex};
+use supply::power::FRESH;
+use turns::page::Page;
 
-// The bytes of a row, and a fresh array's byte; `specs/Dump.antt` and chip have them for the definitions.
+// The bytes of a row; `specs/Dump.antt` has them for the definitions.
 const ROW: usize = 16;
 
-const FRESH: u8 = 0xFF;
-
 // Whether every byte is that of a fresh array.
+#[tactic(auto, unfolding(crate::specs::Dump::all_fresh))]
 fn all_fresh(bytes: &[u8]) -> bool
     ensures { result ≡ all_fresh bytes.now }
 {
-    let mut i = 0;
-    while i < bytes.len() {
-        if bytes[i] != FRESH {
-            return false;
-        }
-        i += 1;
-    }
-    true
+    bytes.iter().all(|&byte| byte == FRESH)
 }
 
 // A byte in hex, a space before it.
 #[tactic(auto, unfolding(crate::specs::Dump::spaced_byte))]
-fn print_one(out: &mut [u8], at: usize, byte: u8) -> usize
-    ensures { Prints (page_of out.old at) (spaced_byte byte) (page_of out.new result) }
+fn print_one(page: &mut Page, byte: u8)
+    ensures { Prints page.old (spaced_byte byte) page.new }
 {
-    let next = print(out, at, b" ");
-    print_hex(out, next, byte)
+    page.print(b" ");
+    print_hex(page, byte);
 }
 
 // Bytes, one behind the other.
-fn print_spaced(out: &mut [u8], at: usize, bytes: &[u8]) -> usize
-    ensures { Prints (page_of out.old at) (spaced bytes.now) (page_of out.new result) }
+fn print_spaced(page: &mut Page, bytes: &[u8])
+    ensures { Prints page.old (spaced bytes.now) page.new }
 {
-    let mut next = at;
-    let mut i = 0;
-    while i < bytes.len() {
-        next = print_one(out, next, bytes[i]);
-        i += 1;
+    for &byte in bytes {
+        print_one(page, byte);
     }
-    next
 }
 
 // A row, where it is not fresh.
 #[tactic(auto, unfolding(crate::specs::Dump::row_text))]
-fn print_row(out: &mut [u8], at: usize, address: usize, row: &[u8]) -> usize
-    ensures { Prints (page_of out.old at) (row_text address row.now) (page_of out.new result) }
+fn print_row(page: &mut Page, address: usize, row: &[u8])
+    ensures { Prints page.old (row_text address row.now) page.new }
 {
     if all_fresh(row) {
-        return at;
+        return;
     }
-    let next = print_address(out, at, address);
-    let next = print(out, next, b":");
-    let next = print_spaced(out, next, row);
-    print(out, next, b"\n")
+    print_address(page, address);
+    page.print(b":");
+    print_spaced(page, row);
+    page.print(b"\n");
 }
 
-// So many rows.
-fn print_rows(out: &mut [u8], at: usize, array: &[u8], rows: usize) -> usize
-    requires { rows * 16 ≤ length array.now }
-    ensures { Prints (page_of out.old at) (rows_text array.now rows 0) (page_of out.new result) }
+// The rows, each with the address of its first byte.
+fn print_rows(page: &mut Page, array: &[u8])
+    ensures { Prints page.old (rows_text array.now (length array.now / row_bytes) 0) page.new }
 {
-    let mut next = at;
-    let mut i = 0;
-    while i < rows {
-        let first = i * ROW;
-        next = print_row(out, next, first, &array[first..first + ROW]);
-        i += 1;
+    for (i, row) in array.chunks_exact(ROW).enumerate() {
+        print_row(page, i * ROW, row);
     }
-    next
 }
 
 // The array.
 #[tactic(auto, unfolding(crate::specs::Dump::array_text))]
-pub fn print_array(out: &mut [u8], at: usize, array: &[u8]) -> usize
-    ensures { Prints (page_of out.old at) (array_text array.now) (page_of out.new result) }
+pub fn print_array(page: &mut Page, array: &[u8])
+    ensures { Prints page.old (array_text array.now) page.new }
 {
     if all_fresh(array) {
-        return print(out, at, b"array: all FF\n");
+        page.print(b"array: all FF\n");
+        return;
     }
-    let next = print(out, at, b"array, where it is not FF:\n");
-    print_rows(out, next, array, array.len() / ROW)
+    page.print(b"array, where it is not FF:\n");
+    print_rows(page, array);
 }

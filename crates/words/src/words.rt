@@ -1,76 +1,61 @@
 // Words of the story: reasons, commands by name, and what to do about a refusal.
-ghost use Rattle.turns.specs.Page.{page_of};
-ghost use Rattle.words.specs.Prints.{Prints};
+ghost use Rattle.turns.specs.Prints.{Prints};
 ghost use Rattle.words.specs.Words.{reason_text, command_text, advice_text};
 
-use crate::page::print;
 use parts::commands::Command;
 use parts::guards::Reason;
+use refusals::refusal::Refusal;
+use turns::page::Page;
 
 // Why a byte was held back.
 #[tactic(auto, unfolding(crate::specs::Words::reason_text))]
-pub fn print_reason(out: &mut [u8], at: usize, reason: Reason) -> usize
-    ensures { Prints (page_of out.old at) (reason_text reason) (page_of out.new result) }
+pub fn print_reason(page: &mut Page, reason: Reason)
+    ensures { Prints page.old (reason_text reason) page.new }
 {
-    match reason {
-        Reason::LatchOff => print(out, at, b"latch off"),
-        Reason::Protect => print(out, at, b"/WP low"),
-        Reason::Block => print(out, at, b"block protected"),
-    }
+    let words: &[u8] = match reason {
+        Reason::LatchOff => b"latch off",
+        Reason::Protect => b"/WP low",
+        Reason::Block => b"block protected",
+    };
+    page.print(words);
 }
 
 // A command's name.
 #[tactic(auto, unfolding(crate::specs::Words::command_text))]
-pub fn print_command(out: &mut [u8], at: usize, command: Command) -> usize
-    ensures { Prints (page_of out.old at) (command_text command) (page_of out.new result) }
+pub fn print_command(page: &mut Page, command: Command)
+    ensures { Prints page.old (command_text command) page.new }
 {
-    match command {
-        Command::Wren => print(out, at, b"WREN"),
-        Command::Wrdi => print(out, at, b"WRDI"),
-        Command::Rdsr => print(out, at, b"RDSR"),
-        Command::Wrsr => print(out, at, b"WRSR"),
-        Command::Read => print(out, at, b"READ"),
-        Command::Fstrd => print(out, at, b"FSTRD"),
-        Command::Write => print(out, at, b"WRITE"),
-        Command::Rdid => print(out, at, b"RDID"),
-        Command::Snr => print(out, at, b"SNR"),
-        Command::Sleep => print(out, at, b"SLEEP"),
-        Command::Other => print(out, at, b"names no command"),
-    }
+    let words: &[u8] = match command {
+        Command::Wren => b"WREN",
+        Command::Wrdi => b"WRDI",
+        Command::Rdsr => b"RDSR",
+        Command::Wrsr => b"WRSR",
+        Command::Read => b"READ",
+        Command::Fstrd => b"FSTRD",
+        Command::Write => b"WRITE",
+        Command::Rdid => b"RDID",
+        Command::Snr => b"SNR",
+        Command::Sleep => b"SLEEP",
+        Command::Other => b"names no command",
+    };
+    page.print(words);
 }
 
 // What a refusal means, and what to do about it.
 #[tactic(auto, unfolding(crate::specs::Words::advice_text))]
-pub fn print_advice(out: &mut [u8], at: usize, row: u8) -> usize
-    ensures { Prints (page_of out.old at) (advice_text row) (page_of out.new result) }
+pub fn print_advice(page: &mut Page, refusal: Refusal)
+    ensures { Prints page.old (advice_text refusal) page.new }
 {
-    match row {
-        1 => print(out, at, b": no such part; begin with the part, 1 to 5"),
-        3 => print(
-            out,
-            at,
+    let words: &[u8] = match refusal {
+        Refusal::NoPart => b": no such part; begin with the part, 1 to 5",
+        Refusal::KeptBits =>
             b": bits that the part does not keep; take bits of 0C on parts 1 and 2, of 8C on parts 3 to 5",
-        ),
-        6 => print(
-            out,
-            at,
-            b": /HOLD would move with SCK high; lower SCK first",
-        ),
-        7 => print(
-            out,
-            at,
-            b": /HOLD would rise with /CS moved; put /CS back first",
-        ),
-        8 => print(
-            out,
-            at,
+        Refusal::HoldWithSck => b": /HOLD would move with SCK high; lower SCK first",
+        Refusal::HoldWithCs => b": /HOLD would rise with /CS moved; put /CS back first",
+        Refusal::Malformed =>
             b": number missing, cut off, over four bytes or not shortest; write it whole, in its shortest form",
-        ),
-        9 => print(
-            out,
-            at,
-            b": leading number over 267; begin with the part and the kept bits",
-        ),
-        _ => at,
-    }
+        Refusal::TooLarge => b": leading number over 267; begin with the part and the kept bits",
+        _ => b"",
+    };
+    page.print(words);
 }

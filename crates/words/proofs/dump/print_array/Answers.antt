@@ -1,11 +1,11 @@
 -- Nothing but fresh bytes, or the rows.
 use Rattle.words.specs.Dump.{array_text}
-use Rattle.words.proofs.Pages.{◌then◌}
+use Rattle.turns.proofs.Pages.{◌then◌}
 use Rattle.words.proofs.dump.print_array.Goals as goal
 
 pub returns : goal.returns
 unfolding array_text
 returns c =
     rw (← c.all_fresh.ensures, c.if-all_fresh.false)
-    (c.print-next.ensures
+    (c.print-2.ensures
     then c.print_rows.ensures)

@@ -1,11 +1,11 @@
 -- Each piece is printed behind the one before.
 use Rattle.words.specs.Lines.{begun}
-use Rattle.words.proofs.Pages.{◌then◌}
+use Rattle.turns.proofs.Pages.{◌then◌}
 use Rattle.words.proofs.lines.begin.Goals as goal
 
 pub returns : goal.returns
 unfolding begun
 returns c =
-    c.print_decimal-next.ensures
-    then c.print-next.ensures
+    c.print_decimal.ensures
     then c.print.ensures
+    then c.print-2.ensures

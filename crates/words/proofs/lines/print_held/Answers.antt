@@ -1,13 +1,13 @@
 -- Each piece is printed behind the one before.
 use Rattle.words.specs.Lines.{held_line}
-use Rattle.words.proofs.Pages.{◌then◌}
+use Rattle.turns.proofs.Pages.{◌then◌}
 use Rattle.words.proofs.lines.print_held.Goals as goal
 
 pub returns : goal.returns
 unfolding held_line
 returns c =
-    c.begin-next.ensures
-    then c.print_address-next.ensures
-    then c.print-next.ensures
-    then c.print_reason-next.ensures
+    c.begin.ensures
+    then c.print_address.ensures
     then c.print.ensures
+    then c.print_reason.ensures
+    then c.print-2.ensures

@@ -1,11 +1,11 @@
 -- Each piece is printed behind the one before.
 use Rattle.words.specs.Lines.{kept_line}
-use Rattle.words.proofs.Pages.{◌then◌}
+use Rattle.turns.proofs.Pages.{◌then◌}
 use Rattle.words.proofs.lines.print_kept.Goals as goal
 
 pub returns : goal.returns
 unfolding kept_line
 returns c =
-    c.begin-next.ensures
-    then c.print_hex-next.ensures
+    c.begin.ensures
+    then c.print_hex.ensures
     then c.print.ensures

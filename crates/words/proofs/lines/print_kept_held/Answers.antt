@@ -1,11 +1,11 @@
 -- Each piece is printed behind the one before.
 use Rattle.words.specs.Lines.{kept_held_line}
-use Rattle.words.proofs.Pages.{◌then◌}
+use Rattle.turns.proofs.Pages.{◌then◌}
 use Rattle.words.proofs.lines.print_kept_held.Goals as goal
 
 pub returns : goal.returns
 unfolding kept_held_line
 returns c =
-    c.begin-next.ensures
-    then c.print_reason-next.ensures
+    c.begin.ensures
+    then c.print_reason.ensures
     then c.print.ensures

@@ -2,7 +2,7 @@
 use Rattle.std.proofs.Common.{◌≤◌, ◌∙◌}
 use Rattle.report.specs.Text.{most_digits, decimal}
 use Rattle.report.proofs.Decimals.{decimal_is, short}
-use Rattle.words.proofs.Pages.{same}
+use Rattle.turns.proofs.Pages.{same}
 use Rattle.words.proofs.page.print_decimal.Goals as goal
 
 pub returns : goal.returns

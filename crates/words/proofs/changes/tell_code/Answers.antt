@@ -1,6 +1,0 @@
--- The line is printed where the test holds.
-use Rattle.words.proofs.Pages.{where_not}
-use Rattle.words.proofs.changes.tell_code.Goals as goal
-
-pub returns : goal.returns
-returns c = where_not _ _ _ _ c.code_comes.ensures c.if-code_comes.false
