@@ -26,6 +26,7 @@ pub(crate) struct Ran {
 }
 
 // The checks of a state and of what is lent with it, an array and a serial number.
+#[tactic(auto, using(crate::proofs::EventLaws::lend_unsound, crate::proofs::EventLaws::lend_misfits, crate::proofs::EventLaws::lend_unnumbered, crate::proofs::EventLaws::lend_fine))]
 pub(crate) fn check_lent(state: State, len: usize, serial: usize) -> Result<(), Refusal>
     ensures { result ≡ checked (lend_refusal state len serial) }
 {

@@ -42,7 +42,7 @@ fn check_power(part: u64, kept: u64, len: usize) -> Result<(), Refusal>
 }
 
 // Power-up of a part with its kept bits, over the array that is lent to it.
-#[tactic(auto, unfolding(crate::specs::Power::power_up))]
+#[tactic(auto, unfolding(crate::specs::Power::power_up), using(crate::specs::PowerLaws::power_part, crate::specs::PowerLaws::power_kept, crate::specs::CheckedLaws::checked_none))]
 pub fn power_up(part: u64, kept: u64, array: &[u8]) -> Powered
     ensures { result ≡ power_up part kept array.now }
 {
