@@ -8,70 +8,56 @@
 ghost use Rattle.std.specs.Prelude.{◌≤◌, ◌<◌, length};
 
 use report::lines::LINE;
-use sayings::words::wide;
 use speller::remarks::remark;
-use spelling::spell::{Answer, spell};
+use spelling::spell::{Fault, spell};
 use trace::reader::MOST_BYTES;
-
-// Standard input.
-const STDIN_FILENO: i32 = 0;
-
-// Standard output.
-const STDOUT_FILENO: i32 = 1;
 
 // The longest input.
 const INPUT: usize = 32768;
 
 fn main() {
     let mut input = [0u8; INPUT];
-    let n = io::read_full(STDIN_FILENO, &mut input);
+    let n = console::read(&mut input);
     cases(&input[..n]);
 }
 
 // Each title, and the text behind it.
 fn cases(input: &[u8]) {
-    let mut i = 0;
-    while i < input.len() {
-        let from = title(input, i);
-        let end = text_end(input, from);
-        run(&input[from..end]);
-        i = end;
+    let mut rest = input;
+    while !rest.is_empty() {
+        let from = title(rest);
+        let behind = &rest[from..];
+        let end = text_end(behind);
+        run(&behind[..end]);
+        rest = &behind[end..];
     }
 }
 
-// Prints the line at `i`, and answers the place behind it.
-fn title(input: &[u8], i: usize) -> usize
-    requires { i < length input.now }
-    ensures { (i < result) × (result ≤ length input.now) }
+// Prints the first line, and answers the place behind it.
+fn title(input: &[u8]) -> usize
+    requires { 0 < length input.now }
+    ensures { (0 < result) × (result ≤ length input.now) }
 {
-    let mut j = i;
-    while j < input.len() {
-        let c = input[j];
-        io::write_all(STDOUT_FILENO, &[c]);
-        j += 1;
-        if c == b'\n' {
-            return j;
-        }
-    }
-    j
+    let end = match input.iter().position(|c| *c == b'\n') {
+        Some(at) => at + 1,
+        None => input.len(),
+    };
+    console::write(&input[..end]);
+    end
 }
 
-// The place of the next title at or behind `i`, where a line begins; or the input's end.
-fn text_end(input: &[u8], i: usize) -> usize
-    requires { i ≤ length input.now }
-    ensures { (i ≤ result) × (result ≤ length input.now) }
+// The place of the first title, where a line begins; or the input's end.
+fn text_end(input: &[u8]) -> usize
+    ensures { result ≤ length input.now }
 {
-    let mut j = i;
     let mut starts = true;
-    while j < input.len() {
-        let c = input[j];
-        if starts & (c == b'=') {
-            return j;
+    for (i, c) in input.iter().enumerate() {
+        if starts && *c == b'=' {
+            return i;
         }
-        starts = c == b'\n';
-        j += 1;
+        starts = *c == b'\n';
     }
-    j
+    input.len()
 }
 
 // What a text spells.
@@ -79,28 +65,22 @@ fn run(text: &[u8]) {
     let mut out = [0u8; MOST_BYTES];
     let answer = spell(text, &mut out);
     print_remark(answer);
-    let Answer::Spelt { length } = answer else {
-        return;
-    };
-    print_trace(&out, length);
+    if let Ok(length) = answer {
+        print_trace(&out[..length]);
+    }
 }
 
-fn print_remark(answer: Answer) {
+fn print_remark(answer: Result<usize, Fault>) {
     let mut line = [0u8; LINE];
     let n = remark(&mut line, answer);
-    io::write_all(STDOUT_FILENO, &line[..n]);
+    console::write(&line[..n]);
 }
 
-// The first `n` bytes, each in hex.
-fn print_trace(out: &[u8; MOST_BYTES], n: usize) {
-    let mut i = 0;
-    while i < n {
-        if MOST_BYTES <= i {
-            return;
-        }
-        io::print_hex(STDOUT_FILENO, wide(out[i]), 2);
-        io::write_all(STDOUT_FILENO, b" ");
-        i += 1;
+// The bytes, each in hex.
+fn print_trace(trace: &[u8]) {
+    for byte in trace {
+        console::say_hex(b"", u64::from(*byte));
+        console::write(b" ");
     }
-    io::write_all(STDOUT_FILENO, b"\n");
+    console::write(b"\n");
 }

@@ -1,11 +1,11 @@
 -- What is said of a text that spells no trace: "one line with line and column (from 1) and what was expected there". Assumes nothing.
-use Rattle.std.specs.Prelude.{ℕ, List, [], ◌++◌}
+use Rattle.std.specs.Prelude.{ℕ, List, [], ◌++◌, Result, Ok, Err}
 use Rattle.report.specs.Lines.{numbered}
 use Rattle.report.specs.Text.{ascii}
 use Rattle.sayings.specs.declared.says.Next.{Next}
 use Rattle.sayings.specs.declared.says.Next.TheVariants as next
-use Rattle.spelling.specs.declared.spell.Answer.{Answer}
-use Rattle.spelling.specs.declared.spell.Answer.TheVariants as answer
+use Rattle.spelling.specs.declared.spell.Fault.{Fault}
+use Rattle.spelling.specs.declared.spell.Fault.TheVariants as fault
 use Rattle.spelling.specs.declared.spell.Place.{Place}
 
 -- what may stand next, in words
@@ -39,9 +39,12 @@ wrong_text place n = place_text place ++ ascii ": expected " ++ expected_text n 
 unfoldable pub full_text : Place → List ℕ
 full_text place = place_text place ++ ascii ": expected the text's end, since a trace has at most 32768 bytes\n"
 
+unfoldable pub long_text : List ℕ
+long_text = ascii "expected a text of at most 262144 characters\n"
+
 -- the line; none where the text spells a trace
-unfoldable pub remark_of : Answer → List ℕ
-remark_of (answer.Spelt n) = []
-remark_of (answer.Wrong place n) = wrong_text place n
-remark_of (answer.Full place) = full_text place
-remark_of answer.Long = ascii "expected a text of at most 262144 characters\n"
+unfoldable pub remark_of : Result ℕ Fault → List ℕ
+remark_of (Ok n) = []
+remark_of (Err (fault.Wrong place n)) = wrong_text place n
+remark_of (Err (fault.Full place)) = full_text place
+remark_of (Err fault.Long) = long_text

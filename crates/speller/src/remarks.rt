@@ -1,46 +1,33 @@
 // What is said of a text that spells no trace: one line, put at the front of a lent buffer, whose rest stays as it was; the
 // answer is its length.
-ghost use Rattle.std.specs.Prelude.{◌≡◌, ◌++◌, ◌+◌, ◌≤◌, length, drop};
+ghost use Rattle.std.specs.Prelude.{◌≡◌, ◌++◌, ◌≤◌, length, drop};
 ghost use Rattle.io.specs.Counts.{IsPrefixLen};
-ghost use Rattle.report.specs.Text.{Puts, line_room};
-ghost use Rattle.speller.specs.Remarks.{most_expected, most_place, expected_text, place_text, wrong_text, full_text, remark_of};
+ghost use Rattle.report.specs.Text.{Puts};
+ghost use Rattle.speller.specs.Remarks.{most_expected, most_place, expected_text, place_text, wrong_text, full_text, long_text, remark_of};
 
-use crate::pieces::{put, put_numbered};
-use report::lines::LINE;
+use report::lines::{LINE, put_numbered};
+use report::text::put;
 use sayings::says::Next;
-use spelling::spell::{Answer, Place};
+use spelling::spell::{Fault, Place};
 
 // What was expected.
 #[tactic(auto, unfolding(crate::specs::Remarks::expected_text))]
-fn put_expected(out: &mut [u8; LINE], at: usize, expected: Next) -> usize
-    requires { at + most_expected ≤ line_room }
-    ensures upper_bound { result ≤ at + most_expected }
-    ensures puts { Puts out.old at (expected_text expected) out.new result }
+fn expected_text(expected: Next) -> &'static [u8]
+    ensures upper_bound { length result.now ≤ most_expected }
+    ensures value { result.now ≡ expected_text expected }
 {
     match expected {
-        Next::Part => put(out, at, b"the part, as in: part 1 kept 00"),
-        Next::PartNumber => put(
-            out,
-            at,
-            b"the part's number (0 to 267), as in: part 1 kept 00",
-        ),
-        Next::Kept => put(out, at, b"kept or the line's end, as in: part 1 kept 00"),
-        Next::KeptByte => put(
-            out,
-            at,
-            b"the kept bits as two hex digits, as in: part 1 kept 00",
-        ),
-        Next::LineEnd => put(out, at, b"the line's end"),
-        Next::Word => put(
-            out,
-            at,
+        Next::Part => b"the part, as in: part 1 kept 00",
+        Next::PartNumber => b"the part's number (0 to 267), as in: part 1 kept 00",
+        Next::Kept => b"kept or the line's end, as in: part 1 kept 00",
+        Next::KeptByte => b"the kept bits as two hex digits, as in: part 1 kept 00",
+        Next::LineEnd => b"the line's end",
+        Next::Word =>
             b"two hex digits or a word (cs sck si hold wp vdd cut power idle held bits item)",
-        ),
-        Next::Level { pin: _ } => put(out, at, b"low or high"),
-        Next::Idle => put(out, at, b"a number of pulses (1 to 268435188)"),
-        Next::Held => put(out, at, b"a number of pulses (1 to 268435188)"),
-        Next::Bits => put(out, at, b"bits, each 0 or 1"),
-        Next::Item => put(out, at, b"an item's number (0 to 268435455)"),
+        Next::Level { .. } => b"low or high",
+        Next::Idle | Next::Held => b"a number of pulses (1 to 268435188)",
+        Next::Bits => b"bits, each 0 or 1",
+        Next::Item => b"an item's number (0 to 268435455)",
     }
 }
 
@@ -63,7 +50,7 @@ fn put_wrong(out: &mut [u8; LINE], place: Place, expected: Next) -> usize
 {
     let at = put_place(out, place);
     let at = put(out, at, b": expected ");
-    let at = put_expected(out, at, expected);
+    let at = put(out, at, expected_text(expected));
     put(out, at, b"\n")
 }
 
@@ -82,17 +69,27 @@ fn put_full(out: &mut [u8; LINE], place: Place) -> usize
     )
 }
 
+// A text that is too long.
+#[tactic(auto, unfolding(crate::specs::Remarks::long_text))]
+fn put_long(out: &mut [u8; LINE]) -> usize
+    ensures prefix_len { IsPrefixLen result out.new }
+    ensures value { result ≡ length long_text }
+    ensures out_after { out.new ≡ long_text ++ drop result out.old }
+{
+    put(out, 0, b"expected a text of at most 262144 characters\n")
+}
+
 // The line; none where the text spells a trace.
 #[tactic(auto, unfolding(crate::specs::Remarks::remark_of))]
-pub fn remark(out: &mut [u8; LINE], answer: Answer) -> usize
+pub fn remark(out: &mut [u8; LINE], answer: Result<usize, Fault>) -> usize
     ensures prefix_len { IsPrefixLen result out.new }
     ensures value { result ≡ length (remark_of answer) }
     ensures out_after { out.new ≡ remark_of answer ++ drop result out.old }
 {
     match answer {
-        Answer::Spelt { length: _ } => 0,
-        Answer::Wrong { place, expected } => put_wrong(out, place, expected),
-        Answer::Full { place } => put_full(out, place),
-        Answer::Long => put(out, 0, b"expected a text of at most 262144 characters\n"),
+        Ok(_) => 0,
+        Err(Fault::Wrong { place, expected }) => put_wrong(out, place, expected),
+        Err(Fault::Full { place }) => put_full(out, place),
+        Err(Fault::Long) => put_long(out),
     }
 }
