@@ -1,6 +1,6 @@
 // The board's SO.
 ghost use Rattle.std.specs.Prelude.{◌≡◌};
-ghost use Rattle.board.specs.So.{board_so};
+ghost use Rattle.board.specs.So.{board_so, so_number};
 ghost use Rattle.board.specs.Loop.{driven_by, joined};
 
 use pins::state::State;
@@ -13,6 +13,20 @@ pub enum BoardSo {
     High,
     Released,
     Fight,
+}
+
+// "0, 1, or 2 for released", and 3 for a fight.
+impl From<BoardSo> for u8 {
+    ghost from_gives = { λ so n. n ≡ so_number so };
+
+    fn from(so: BoardSo) -> u8 {
+        match so {
+            BoardSo::Low => 0,
+            BoardSo::High => 1,
+            BoardSo::Released => 2,
+            BoardSo::Fight => 3,
+        }
+    }
 }
 
 // What the line is once one more chip drives it.

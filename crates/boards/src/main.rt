@@ -6,27 +6,30 @@
 #![tactic(auto)]
 
 use board::chips::Board;
-use board::event::event;
+use board::event::{BoardAnswer, event};
 use board::power::{Asked, Plan, power_up};
-use board::so::BoardSo;
+use console::{say, write};
 use pins::state::State;
-
-// Standard output.
-const STDOUT_FILENO: i32 = 1;
+use refusals::refusal::number_or_0;
 
 fn main() {
     let mut array = [0u8; 3072];
     array[0] = 0x80;
     array[512] = 0xA5;
     let board = power(b"power-up", plan(3, 0x00, 3), &array);
-    let board = shown(board, &mut array);
-    let board = written(board, &mut array);
-    bytes_written(&array);
-    let board = cut(board, &mut array);
-    say_byte(b"bytes: chip 2 ", array[1024]);
-    end_line();
-    refused(board, &mut array);
-    not_this_slice(board);
+    let mut rank = Rank {
+        board,
+        array: &mut array,
+        serials: &[],
+    };
+    shown(&mut rank);
+    written(&mut rank);
+    bytes_written(&rank);
+    cut(&mut rank);
+    rank.say_byte(b"bytes: chip 2 ", 1024);
+    write(b"\n");
+    refused(&mut rank);
+    not_this_slice(rank.board);
     refused_power_ups(&array);
     numbered();
 }
@@ -37,91 +40,88 @@ fn main() {
 // Two READs of address 0 from one op-code and address: 80h and A5h both begin with a 1, which is a fight all the same. Chip 0
 // is held, so the clocks are chip 1's alone: bits 6 to 0 of A5h and bit 7 of the byte behind it. When /HOLD rises chip 0 shows its
 // 1 again beside chip 1's 0. Chip 1 is closed, then chip 0.
-fn shown(board: Board, array: &mut [u8]) -> Board {
-    let board = play(b"latch of chip 0 set", board, array, b"e00 b06 e01");
-    let board = play(
-        b"selects interleaved",
-        board,
-        array,
-        b"e00 b05 e10 b05 b00 e01 e11",
-    );
-    let board = play(b"two agree and fight", board, array, b"e00 e10 b03 b00");
-    play(
-        b"held while another is read",
-        board,
-        array,
-        b"e06 b00 e07 e11 e01",
-    )
+fn shown(rank: &mut Rank) {
+    rank.play(b"latch of chip 0 set", b"e00 b06 e01");
+    rank.play(b"selects interleaved", b"e00 b05 e10 b05 b00 e01 e11");
+    rank.play(b"two agree and fight", b"e00 e10 b03 b00");
+    rank.play(b"held while another is read", b"e06 b00 e07 e11 e01");
 }
 
 // WREN to chips 0 and 2, then one WRITE to both: chip 0 has one address byte, so it takes 02h and 03h from 001h on; chip 2 has
 // two and takes 03h at 102h. Nothing is shown.
-fn written(board: Board, array: &mut [u8]) -> Board {
-    play(
+fn written(rank: &mut Rank) {
+    rank.play(
         b"both written",
-        board,
-        array,
         b"e00 e20 b06 e01 e21 e00 e20 b02 b01 b02 b03 e01 e21",
-    )
+    );
 }
 
 // The bytes of that WRITE, and chip 1's at 001h and 102h, which did not see it.
-fn bytes_written(array: &[u8; 3072]) {
-    say_byte(b"bytes: chip 0 ", array[1]);
-    say_byte(b" ", array[2]);
-    say_byte(b", chip 2 ", array[1282]);
-    say_byte(b", neighbours ", array[513]);
-    say_byte(b" ", array[770]);
-    end_line();
+fn bytes_written(rank: &Rank) {
+    rank.say_byte(b"bytes: chip 0 ", 1);
+    rank.say_byte(b" ", 2);
+    rank.say_byte(b", chip 2 ", 1282);
+    rank.say_byte(b", neighbours ", 513);
+    rank.say_byte(b" ", 770);
+    write(b"\n");
 }
 
 // WREN and a WRITE of 55h to 000h of chip 2; chip 1 is selected, and one clock of another byte comes; then VDD goes and comes,
 // which every chip sees. The whole byte is stored. After it no select is open, and chip 2's RDSR shows its kept 80h with the latch
 // off, with nobody else on the line.
-fn cut(board: Board, array: &mut [u8]) -> Board {
-    let board = play(
+fn cut(rank: &mut Rank) {
+    rank.play(
         b"cut in a byte",
-        board,
-        array,
         b"e20 b06 e21 e20 b02 b00 b00 b55 e10 e03 e02 e0a e0b",
     );
-    play(b"after the cut", board, array, b"e20 b05 b00 e21")
+    rank.play(b"after the cut", b"e20 b05 b00 e21");
 }
 
 // 6: with SCK high /HOLD may not move, of chip 0 or of chip 1. 7: chip 1's /CS moved in hold; back again it may rise. 5: 12 is no
 // event, and 14 is for an own line only, so no such chip is not asked for. 14: chips count from 0, so of three there is no chip
 // 3; SI is a shared line and moves for any number.
-fn refused(board: Board, array: &mut [u8]) {
-    let board = play(b"six", board, array, b"e03 e06 e16 e02");
-    let board = play(b"seven", board, array, b"e16 e10 e17 e11 e17");
-    play(b"five", board, array, b"e0c e3c");
-    play(b"fourteen", board, array, b"e30 e34");
+fn refused(rank: &mut Rank) {
+    rank.play(b"six", b"e03 e06 e16 e02");
+    rank.play(b"seven", b"e16 e10 e17 e11 e17");
+    rank.play(b"five", b"e0c e3c");
+    rank.play(b"fourteen", b"e30 e34");
 }
 
 // One byte short: 2 comes before 5 and after 14. No chip is a part 5, so one byte of serials is too many: 15, before 5 and after
 // 14. Chip 2's kept bit 0 is outside the mask: 4 for any chip's event, after 14 and before 2 and 15. 13 comes before 14.
 fn not_this_slice(board: Board) {
-    play(b"short slice", board, &mut [0u8; 3071], b"e00 e0c e30");
+    let unsound = spoilt(board);
+    let none = Board { count: 0, ..board };
+    let nine = Board {
+        count: 9,
+        ..unsound
+    };
     let one = &[0u8; 1];
-    play_with(
+    play(b"short slice", board, &mut [0u8; 3071], &[], b"e00 e0c e30");
+    play(
         b"a byte of serials",
         board,
         &mut [0u8; 3072],
         one,
         b"e00 e0c e30",
     );
-    let unsound = spoilt(board);
-    play(b"unsound", unsound, &mut [0u8; 3072], b"e00 e30");
-    play_with(
+    play(b"unsound", unsound, &mut [0u8; 3072], &[], b"e00 e30");
+    play(
         b"unsound, a byte of serials",
         unsound,
         &mut [0u8; 3072],
         one,
         b"e00",
     );
-    play(b"unsound, short slice", unsound, &mut [0u8; 3071], b"e0c");
-    play(b"no chips", counted(board, 0), &mut [0u8; 3072], b"e34 e30");
-    play(b"nine chips", counted(unsound, 9), &mut [0u8; 3072], b"e90");
+    play(
+        b"unsound, short slice",
+        unsound,
+        &mut [0u8; 3071],
+        &[],
+        b"e0c",
+    );
+    play(b"no chips", none, &mut [0u8; 3072], &[], b"e34 e30");
+    play(b"nine chips", nine, &mut [0u8; 3072], &[], b"e90");
 }
 
 // 13, 1, 2, 3, each over all chips: a part 9 behind kept bits outside the mask, on a slice that is too short, is 1; the slice is 2,
@@ -132,7 +132,7 @@ fn refused_power_ups(array: &[u8]) {
     power(b"a part 9 last", plan(3, 0x01, 9), &[0u8; 1]);
     power(b"a slice too short", plan(3, 0x01, 3), &[0u8; 3071]);
     let board = power(b"kept bits first", plan(3, 0x01, 3), array);
-    play(b"what it returns", board, &mut [0u8; 3072], b"e34");
+    play(b"what it returns", board, &mut [0u8; 3072], &[], b"e34");
 }
 
 // "eight bytes for each part 5 chip in chip order": the second eight are chip 2's, FEh to 10h. Its SNR shows bit 7 of FEh at the last
@@ -140,58 +140,41 @@ fn refused_power_ups(array: &[u8]) {
 // Chip 1 is part 1, where C3h does nothing. Both part 5 chips at once fight; when chip 0 is closed, chip 2 shows bit 7 of DCh.
 fn numbered() {
     let mut array = [0u8; 33280];
-    let serials = b"\x01\x23\x45\x67\x89\xAB\xCD\xEF\xFE\xDC\xBA\x98\x76\x54\x32\x10";
     let board = power(b"power-up of parts 5, 1 and 5", fives(), &array);
-    let board = play_with(
-        b"serial number of chip 2",
+    let mut rank = Rank {
         board,
-        &mut array,
-        serials,
+        array: &mut array,
+        serials: b"\x01\x23\x45\x67\x89\xAB\xCD\xEF\xFE\xDC\xBA\x98\x76\x54\x32\x10",
+    };
+    rank.play(
+        b"serial number of chip 2",
         b"e20 bc3 b00 b00 b00 b00 b00 b00 b00 b00 e21",
     );
-    let board = play_with(
-        b"and of chip 0",
-        board,
-        &mut array,
-        serials,
-        b"e00 bc3 b00 e01",
-    );
-    let board = play_with(
-        b"and of part 1",
-        board,
-        &mut array,
-        serials,
-        b"e10 bc3 b00 e11",
-    );
-    let board = play_with(
-        b"both at once",
-        board,
-        &mut array,
-        serials,
-        b"e00 e20 bc3 b00 e01 e21",
-    );
-    fifteen(board);
-    fifteen_with_power_off(board);
+    rank.play(b"and of chip 0", b"e00 bc3 b00 e01");
+    rank.play(b"and of part 1", b"e10 bc3 b00 e11");
+    rank.play(b"both at once", b"e00 e20 bc3 b00 e01 e21");
+    fifteen(rank.board);
+    fifteen_with_power_off(rank.board);
 }
 
 // 16 bytes and no other number, for an own line and for a shared one. 15 comes before 5, after 14 and after 2.
 fn fifteen(board: Board) {
     let few = &[0u8; 15];
-    play_with(
+    play(
         b"fifteen bytes",
         board,
         &mut [0u8; 33280],
         few,
         b"e00 e04 e0c e30",
     );
-    play_with(
+    play(
         b"and a short slice",
         board,
         &mut [0u8; 33279],
         few,
         b"e00 e30",
     );
-    play_with(
+    play(
         b"seventeen bytes",
         board,
         &mut [0u8; 33280],
@@ -203,8 +186,8 @@ fn fifteen(board: Board) {
 // It is given with power off too.
 fn fifteen_with_power_off(board: Board) {
     let mut array = [0u8; 33280];
-    let off = play_with(b"power off", board, &mut array, &[0u8; 16], b"e0a");
-    play_with(
+    let off = play(b"power off", board, &mut array, &[0u8; 16], b"e0a");
+    play(
         b"fifteen bytes, power off",
         off,
         &mut array,
@@ -235,121 +218,95 @@ fn plan(count: usize, kept: u64, last: u64) -> Plan {
 
 fn power(name: &[u8], plan: Plan, array: &[u8]) -> Board {
     let powered = power_up(plan, array);
-    let board = powered.board;
-    io::write_all(STDOUT_FILENO, name);
-    say(b": refused ", powered.refusal as u64);
-    say(b", chips ", board.count as u64);
-    end_line();
-    board
+    write(name);
+    say(b": refused ", u64::from(number_or_0(powered.refusal)));
+    say(b", chips ", powered.board.count as u64);
+    write(b"\n");
+    powered.board
 }
 
 fn spoilt(board: Board) -> Board {
-    let mut board = board;
-    let chip = board.chips[2];
-    board.chips[2] = State { kept: 1, ..chip };
-    board
+    let mut chips = board.chips;
+    chips[2] = State {
+        kept: 1,
+        ..chips[2]
+    };
+    Board { chips, ..board }
 }
 
-fn counted(board: Board, count: usize) -> Board {
-    let chips = board.chips;
-    Board { count, chips }
+// A board's chips, with the slice and the serials that are lent to them.
+#[derive(Drop)]
+struct Rank<'a> {
+    board: Board,
+    array: &'a mut [u8],
+    serials: &'a [u8],
 }
 
-// With no serials: no chip is a part 5.
-fn play(name: &[u8], board: Board, array: &mut [u8], text: &[u8]) -> Board {
-    play_with(name, board, array, &[], text)
-}
-
-// The entries of a text one after the other, and what each showed.
-fn play_with(name: &[u8], board: Board, array: &mut [u8], serials: &[u8], text: &[u8]) -> Board {
-    io::write_all(STDOUT_FILENO, name);
-    io::write_all(STDOUT_FILENO, b":");
-    let mut board = board;
-    let mut i = 0;
-    while i < text.len() {
-        io::write_all(STDOUT_FILENO, b" ");
-        board = entry(
-            board,
-            array,
-            serials,
-            text[i],
-            digit_at(text, i + 1),
-            digit_at(text, i + 2),
-        );
-        i += 4;
-    }
-    end_line();
-    board
-}
-
-fn entry(board: Board, array: &mut [u8], serials: &[u8], kind: u8, x: u8, y: u8) -> Board {
-    if kind == b'b' {
-        byte(board, array, serials, x as u64 * 16 + y as u64)
-    } else {
-        one(board, array, serials, x as usize, y as u64)
-    }
-}
-
-// The hex digit at a place, in small letters; 255 where there is none.
-fn digit_at(text: &[u8], i: usize) -> u8 {
-    if i < text.len() {
-        let b = text[i];
-        match b {
-            b'0'..=b'9' => b - b'0',
-            b'a'..=b'f' => b - b'a' + 10,
-            _ => 255,
+impl Rank<'_> {
+    // The entries of a text one after the other, and what each showed.
+    fn play(&mut self, name: &[u8], text: &[u8]) {
+        write(name);
+        write(b":");
+        for entry in text.split(|byte| *byte == b' ') {
+            write(b" ");
+            self.enter(entry);
         }
-    } else {
-        255
+        write(b"\n");
+    }
+
+    fn enter(&mut self, entry: &[u8]) {
+        match entry {
+            [b'b', high, low] => self.byte(digit(*high) << 4 | digit(*low)),
+            [b'e', chip, code] => self.one(digit(*chip) as usize, digit(*code)),
+            _ => {}
+        }
+    }
+
+    // One event.
+    fn send(&mut self, chip: usize, code: u64) -> BoardAnswer {
+        let answer = event(self.board, self.array, self.serials, chip, code);
+        self.board = answer.board;
+        answer
+    }
+
+    // One event, and what it showed.
+    fn one(&mut self, chip: usize, code: u64) {
+        let answer = self.send(chip, code);
+        match answer.refusal {
+            None => say(b"", u64::from(u8::from(answer.so))),
+            Some(refusal) => say(b"!", u64::from(u8::from(refusal))),
+        }
+    }
+
+    // Eight times SI, SCK up, SCK down.
+    fn byte(&mut self, value: u64) {
+        for bit in 0..8u32 {
+            self.send(0, 4 + (value >> (7 - bit) & 1));
+            self.send(0, 3);
+            self.one(0, 2);
+        }
+    }
+
+    // A word, and the byte at a place of the slice.
+    fn say_byte(&self, word: &[u8], at: usize) {
+        if let Some(byte) = self.array.get(at) {
+            say(word, u64::from(*byte));
+        }
     }
 }
 
-// One event, and what it showed.
-fn one(board: Board, array: &mut [u8], serials: &[u8], chip: usize, code: u64) -> Board {
-    let answer = event(board, array, serials, chip, code);
-    if answer.refusal == 0 {
-        let so = answer.so;
-        say(b"", number(so));
-    } else {
-        say(b"!", answer.refusal as u64);
-    }
-    answer.board
+// A text on a board with what is lent to it, and the board that is left.
+fn play(name: &[u8], board: Board, array: &mut [u8], serials: &[u8], text: &[u8]) -> Board {
+    let mut rank = Rank {
+        board,
+        array,
+        serials,
+    };
+    rank.play(name, text);
+    rank.board
 }
 
-// Eight times SI, SCK up, SCK down.
-fn byte(board: Board, array: &mut [u8], serials: &[u8], value: u64) -> Board {
-    let mut board = board;
-    let mut value = value;
-    let mut i: usize = 0;
-    while i < 8 {
-        let si = event(board, array, serials, 0, 4 + value / 128 % 2);
-        let up = event(si.board, array, serials, 0, 3);
-        board = one(up.board, array, serials, 0, 2);
-        value = value % 128 * 2;
-        i += 1;
-    }
-    board
-}
-
-fn number(so: BoardSo) -> u64 {
-    match so {
-        BoardSo::Low => 0,
-        BoardSo::High => 1,
-        BoardSo::Released => 2,
-        BoardSo::Fight => 3,
-    }
-}
-
-// Writes a word and a number after it, in decimal.
-fn say(word: &[u8], n: u64) {
-    io::write_all(STDOUT_FILENO, word);
-    io::print_decimal(STDOUT_FILENO, n);
-}
-
-fn say_byte(word: &[u8], n: u8) {
-    say(word, n as u64);
-}
-
-fn end_line() {
-    io::write_all(STDOUT_FILENO, b"\n");
+// What a hex digit says; 255 where it is none.
+fn digit(c: u8) -> u64 {
+    char::from(c).to_digit(16).map_or(255, u64::from)
 }

@@ -5,10 +5,6 @@
 use board::event::event;
 use board::power::{Asked, Plan, power_up};
 
-fn number(refusal: u8) -> u64 {
-    refusal as u64
-}
-
 // The codes one after the other, own lines of chip 0: the first refusal, or 0.
 #[unsafe(no_mangle)]
 pub extern "C" fn by_board(count: usize, codes: &[u64], array: &mut [u8]) -> u64 {
@@ -16,17 +12,13 @@ pub extern "C" fn by_board(count: usize, codes: &[u64], array: &mut [u8]) -> u64
         count,
         chips: [Asked { part: 1, kept: 0 }; 8],
     };
-    let powered = power_up(plan, array);
-    let mut board = powered.board;
-    let mut i = 0;
-    while i < codes.len() {
-        let after = i + 1;
-        let answer = event(board, array, &[], 0, codes[i]);
-        if answer.refusal != 0 {
-            return number(answer.refusal);
+    let mut board = power_up(plan, array).board;
+    for code in codes {
+        let answer = event(board, array, &[], 0, *code);
+        if let Some(refusal) = answer.refusal {
+            return u64::from(u8::from(refusal));
         }
         board = answer.board;
-        i = after;
     }
     0
 }
