@@ -19,12 +19,17 @@ use Rattle.refusals.specs.declared.refusal.Refusal.{Refusal}
 use Rattle.refusals.specs.declared.refusal.Refusal.TheVariants.{FewAnswers}
 use Rattle.step.specs.Step.{written}
 use Rattle.step.specs.StepLaws.{written_length}
+use Rattle.supply.specs.Power.{checked}
+use Rattle.supply.specs.CheckedLaws.{some_given, checked_none, checked_some}
 use Rattle.chip.specs.Event.{answer_of, first, unless_refused, lend_refusal, tried, event}
 use Rattle.chip.specs.List.{Course, set_all_out, stops_at, turn, course, list_refusal, listed}
 use Rattle.chip.proofs.EventLaws.{event_lends, lend_passed, lend_none}
 use Rattle.chip.proofs.RunLaws.{event_part}
 use Rattle.chip.proofs.SoundLaws.{event_sound}
 use Rattle.chip.specs.declared.event.Answer.{Answer}
+
+pub turn_stops : (c : Course) (a : Answer) → (a.refusal ≡ None → ⊥) → turn c a ≡ stops_at c a.refusal
+turn_stops c a e = rw (some_given _ e)
 
 -- what the first checks let through: the state and what is lent with it, and the answers have room for every event
 pub list_passed : (s : State) (len serial codes levels : ℕ) → list_refusal s len serial codes levels ≡ None
@@ -129,6 +134,18 @@ module _ (serial : List ℕ) where
     listed_stops {why} e =
         ap (λ (r : Option Refusal). course serial (set_all_out r s xs levels) codes) e
         ∙ course_stays (set_all_out (Some why) s xs levels) codes refl
+
+  -- the call: what it asked first is what its checks give
+  module _ (xs : List ℕ) (s : State) (codes levels : List ℕ) {r : Result (Unit {0}) Refusal} (told : r ≡ checked (list_refusal s (length xs) (length serial) (length codes) (length levels))) where
+    -- the loop may run: nothing is refused of what is lent, and the answers have room
+    pub call_passed : r ≡ Ok tt → (lend_refusal s (length xs) (length serial) ≡ None) × (length codes ≤ length levels)
+    call_passed e = list_passed s (length xs) (length serial) (length codes) (length levels) (checked_none _ (sym told ∙ e))
+
+    pub call_runs : {c : Course} → r ≡ Ok tt → c ≡ course serial (set_all_out None s xs levels) codes → c ≡ listed serial xs s codes levels
+    call_runs e ran = ran ∙ sym (listed_runs xs s codes levels (checked_none _ (sym told ∙ e)))
+
+    pub call_stops : {why : Refusal} → r ≡ Err why → set_all_out (Some why) s xs levels ≡ listed serial xs s codes levels
+    call_stops e = sym (listed_stops xs s codes levels (checked_some _ _ (sym told ∙ e)))
 
   -- ---- one event is the loop over one code
 
