@@ -7,7 +7,7 @@ use native.Mathlib.Nat.{add-zero}
 use native.Mathlib.Numerals.{add-one}
 use native.Mathlib.Omega.{arith}
 use borrow.Author.Tests.{le-ltb, lt-ltb, le-leb, lt-leb}
-use lib.ListN.{length, get_or, set, drop, length-append, drop_of_length-le}
+use lib.ListN.{length, get_or, set, drop, length-append}
 use lib.Seq.{sets, sets-eq, length-sets, drop-cons}
 use Rattle.trace.specs.Figures.{groups, largest}
 use Rattle.trace.specs.Answers.{Told, placed}
@@ -143,12 +143,6 @@ module _ (items : List ℕ) (i : ℕ) (h : i < length items) where
     pub item_more : {next : ℕ} {r : Option ℕ} → Lays t at (form (get_or items i 0)) x r → r ≡ Some next → Laying s first all x next (forms (drop (i + 1) items))
     item_more p is = more (forms (drop (i + 1) items)) l forms_drop p is
 
-    pub item_stop : {r : Option ℕ} → Lays t at (form (get_or items i 0)) x r → r ≡ None → Lays s first all x None
-    item_stop p is = stop (forms (drop (i + 1) items)) l forms_drop p is
-
-pub items_done : {s all t : List ℕ} {first at : ℕ} (items : List ℕ) (i : ℕ) → length items ≤ i → Laying s first all t at (forms (drop i items)) → Lays s first all t (Some at)
-items_done items i h l = done (rw (drop_of_length-le items h) at l)
-
 -- ---- bits
 
 module _ (word : List ℕ) (i : ℕ) (h : i < length word) where
@@ -164,19 +158,11 @@ module _ (word : List ℕ) (i : ℕ) (h : i < length word) where
         → Laying s first all x next (forms (bit_items (drop (i + 1) word)))
     bit_more d bit e f p is = more (forms (bit_items (drop (i + 1) word))) l (rw f at (bits_drop d e)) p is
 
-    pub bit_stop :
-        {r : Option ℕ} (d : Option ℕ) (bit : ℕ) → d ≡ digit_of (get_or word i 0) → d ≡ Some bit → Lays t at (forms ((4 + bit) ∷ 3 ∷ 2 ∷ [])) x r → r ≡ None
-        → Lays s first all x None
-    bit_stop d bit e f p is = stop (forms (bit_items (drop (i + 1) word))) l (rw f at (bits_drop d e)) p is
-
   -- no bit, no pulse
   pub bit_none :
       {s all t : List ℕ} {first at : ℕ} → Laying s first all t at (forms (bit_items (drop i word))) → (d : Option ℕ) → d ≡ digit_of (get_or word i 0) → d ≡ None
       → Laying s first all t at (forms (bit_items (drop (i + 1) word)))
   bit_none l d e f = rw (rw f at (bits_drop d e)) at l
-
-pub bits_done : {s all t : List ℕ} {first at : ℕ} (word : List ℕ) (i : ℕ) → length word ≤ i → Laying s first all t at (forms (bit_items (drop i word))) → Lays s first all t (Some at)
-bits_done word i h l = done (rw (drop_of_length-le word h) at l)
 
 -- ---- nothing
 

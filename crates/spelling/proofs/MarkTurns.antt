@@ -1,6 +1,6 @@
 -- A text read mark by mark: what each turn comes to is what the meaning says of the marks that it takes. Assumes nothing.
 use mathlib.Core.Path.{◌≡◌, refl, sym, ap, ap₂, ◌∙◌}
-use mathlib.Core.List.{List, [], ◌∷◌, ◌++◌, append_assoc}
+use mathlib.Core.List.{List, [], ◌∷◌, ◌++◌}
 use Prim.Native.Nat.{ℕ, ◌+◌, ◌-◌}
 use native.Mathlib.Omega.{arith}
 use borrow.Author.Tests.{le-leb, lt-leb}
@@ -91,23 +91,3 @@ pub end_taken :
     → said ≡ said_end here.selected here.next → Acts before here i [] said after r
     → Follows text before here (line_end i ∷ []) after r
 end_taken text before after here i said r e a = mark_taken text before after here (line_end i) r (rw e at a)
-
--- ---- marks of one character
-
--- no mark
-pub none_taken : (text out : List ℕ) (here : Here) → Follows text out here [] out (Ok here)
-none_taken text out here = record { comes = λ ms. refl }
-
--- those of a word, and then those of a line
-module _ {text before between : List ℕ} {here : Here} {first : List Mark} {r : Result Here Stop} (p : Follows text before here first between r) where
-  after_first : (second ms : List Mark) {t : Result Here Stop} → r ≡ t → rest text before here ((first ++ second) ++ ms) ≡ followed text t between (second ++ ms)
-  after_first second ms e =
-      ap (rest text before here) (append_assoc first second ms)
-      ∙ p.comes (second ++ ms)
-      ∙ ap (λ (x : Result Here Stop). followed text x between (second ++ ms)) e
-
-  pub both_taken : {after : List ℕ} {h : Here} {second : List Mark} {t : Result Here Stop} → r ≡ Ok h → Follows text between h second after t → Follows text before here (first ++ second) after t
-  both_taken {second = second} e q = record { comes = λ ms. after_first second ms e ∙ q.comes ms }
-
-  pub stop_taken : (second : List Mark) {why : Stop} → r ≡ Err why → Follows text before here (first ++ second) between (Err why)
-  stop_taken second e = record { comes = λ ms. after_first second ms e }

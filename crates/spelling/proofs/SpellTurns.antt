@@ -1,19 +1,15 @@
 -- Lines and columns counted, bytes copied, and what a whole text comes to as an answer. Assumes nothing.
 use mathlib.Core.Path.{◌≡◌, refl, sym, ap, ap₂, ◌∙◌}
-use mathlib.Core.Bool.{Bool, true, false, cond}
 use mathlib.Core.List.{List, [], ◌∷◌, ◌++◌}
 use Prim.Native.Nat.{ℕ, suc, ◌+◌, ◌-◌, ◌≤◌, ◌<◌}
-use native.Mathlib.Numerals.{add-one}
 use native.Mathlib.Omega.{arith}
 use borrow.Author.Tests.{le-ltb, lt-ltb}
-use lib.Dec.{eqb}
-use lib.ListN.{length, get_or, set, take, drop, drop_of_length-le}
-use lib.Seq.{set_out, sets, sets-eq, length-sets, drop-cons, take_all, take-append_seam}
-use Rattle.sayings.specs.Characters.{char}
+use lib.ListN.{length, set, take, drop, drop_of_length-le}
+use lib.Seq.{set_out, sets, sets-eq, length-sets, take_all, take-append_seam}
 use Rattle.spelling.specs.Items.{forms}
 use Rattle.spelling.specs.Meaning.{Meaning, names, wrong, full, long, longest, meaning}
 use Rattle.spelling.specs.MeaningLaws.{Names, named_room}
-use Rattle.spelling.specs.Spelt.{most_bytes, spelt, next_place, place_from, place_at, fault_of, answered, lent, Spells}
+use Rattle.spelling.specs.Spelt.{most_bytes, spelt, fault_of, answered, lent, Spells}
 use Rattle.spelling.specs.Told.{told, passed, wholly}
 use Rattle.spelling.specs.Told as told
 use Rattle.spelling.specs.declared.spell.Fault.{Fault}
@@ -25,32 +21,9 @@ use Rattle.trace.specs.ByteLaws.{below}
 use mathlib.Core.Logic.{⊎_elim}
 use borrow.Rule.Slice.PartMut.{put_mid}
 use Rattle.spelling.proofs.LayTurns.{sets_append}
-use Rattle.spelling.specs.declared.spell.Place.{Place}
 use Rattle.spelling.specs.declared.turns.Here.{Here}
 use Rattle.spelling.specs.declared.turns.Stop.{Stop}
 use Rattle.spelling.specs.declared.turns.Stop.TheVariants as stop
-
--- ---- lines and columns
-
-module _ (front : List ℕ) (place : Place) (i : ℕ) (h : i < length front) where
-  pub place_turn : {all next : Place} → place_from place.line place.column (drop i front) ≡ all → next ≡ next_place place (get_or front i 0)
-      → place_from next.line next.column (drop (i + 1) front) ≡ all
-  place_turn inv e = rw e (sym (rw (drop-cons front i 0 h, ← add-one i)) ∙ inv)
-
-  pub place_bound : {next : Place} → next ≡ next_place place (get_or front i 0) → (place.line ≤ i + 1) × (place.column ≤ i + 1)
-      → (next.line ≤ i + 1 + 1) × (next.column ≤ i + 1 + 1)
-  place_bound e b = rw e (go (eqb (get_or front i 0) (char "\n")))
-    where
-      go : (t : Bool) → (cond t (place.line + 1) place.line ≤ i + 1 + 1) × (cond t 1 (place.column + 1) ≤ i + 1 + 1)
-      go true = (omega arith, omega arith)
-      go false = (omega arith, omega arith)
-
-pub place_end : (front : List ℕ) (place : Place) (i : ℕ) {all : Place} → length front ≤ i → place_from place.line place.column (drop i front) ≡ all → place ≡ all
-place_end front place i h inv = rw (drop_of_length-le front h) at inv
-
-pub place_whole : (text : List ℕ) (i : ℕ) → length text ≤ i → place_from 1 1 text ≡ place_at text i
-unfolding place_at
-place_whole text i h = rw (take_all i text h)
 
 -- ---- bytes copied
 

@@ -3,15 +3,15 @@ use mathlib.Core.Path.{◌≡◌, refl, sym, ap, ap₂, ◌∙◌}
 use mathlib.Core.Logic.{⊎_elim}
 use mathlib.Core.Bool.{Bool, true, false}
 use mathlib.Core.List.{List, [], ◌∷◌, ◌++◌}
-use Prim.Native.Nat.{ℕ, ◌+◌, ◌≤◌, ◌<◌}
+use Prim.Native.Nat.{ℕ, ◌+◌, ◌≤◌}
 use native.Mathlib.Nat.{add-zero, eq-or-lt_of_le}
 use native.Mathlib.Numerals.{add-one}
 use native.Mathlib.Omega.{arith}
 use borrow.Author.Tests.{lt-ltb, le-ltb}
-use lib.ListN.{length, drop, get_or, length-append, drop_of_length-le, get_or-append}
+use lib.ListN.{length, drop, get_or, length-append, get_or-append}
 use lib.Seq.{drop-cons, get_or_at}
 use Rattle.sayings.specs.Characters.{ascii, kind_of}
-use Rattle.spelling.specs.Marks.{Mark, char_at, word_ended, line_ended, mode_after, word_marks, line_marks, marks, ModeFits, EndedFits}
+use Rattle.spelling.specs.Marks.{Mark, char_at, word_ended, line_ended, mode_after, word_marks, line_marks, marks, ModeFits}
 use Rattle.spelling.specs.Meaning.{start, ready, meaning}
 use Rattle.spelling.specs.Told.{Told, spelt, rest, followed, Follows, passed, finished, wholly}
 use Rattle.sayings.specs.declared.chars.Kind.{Kind}
@@ -23,14 +23,6 @@ use Rattle.spelling.specs.declared.turns.Stop.{Stop}
 use Rattle.std.specs.Prelude.{Option, Result, Ok, Err}
 
 -- ---- a word begins before the place where it is read
-
-pub ended_fits : (mode : Mode) (kind : Kind) (i : ℕ) → ModeFits mode i → EndedFits (word_ended mode kind) i
-ended_fits Between kind i h = tt
-ended_fits Comment kind i h = tt
-ended_fits (Inside from) NewLine i h = h
-ended_fits (Inside from) Hash i h = h
-ended_fits (Inside from) Blank i h = h
-ended_fits (Inside from) Letter i h = tt
 
 pub mode_fits : (mode : Mode) (kind : Kind) (i : ℕ) → ModeFits mode i → ModeFits (mode_after mode kind i) (i + 1)
 mode_fits mode NewLine i h = tt
@@ -84,12 +76,6 @@ module _ (text out : List ℕ) (mode : Mode) (here : Here) (i : ℕ) {all : Told
 
       pub char_stop : (why : Stop) → t ≡ Err why → passed (Err why) x ≡ all
       char_stop why e = comes (Err why) e
-
-  pub text_end : (t : Result Here Stop) → length text < i → t ≡ finished here (length text) → passed t out ≡ all
-  text_end t h e = rw e (go (ready here.next) refl ∙ ap (λ (l : List ℕ). rest text out here (marks mode i l)) (sym none) ∙ inv)
-    where
-      none : drop i (ended text) ≡ []
-      none = drop_of_length-le (ended text) {i = i} (omega (arith, length-append text (ascii "\n")))
 
       go : (b : Bool) → ready here.next ≡ b → passed (finished here (length text)) out ≡ rest text out here []
       go true q = rw q (ap (λ (n : ℕ). spelt n out) (sym (add-zero here.at)))

@@ -16,7 +16,6 @@ use trace::number::write_at;
 const FIRST_BYTE: u64 = 12;
 
 // One item.
-#[tactic(auto, using(crate::proofs::LayTurns::item_lays))]
 fn put_item(out: &mut [u8], at: usize, item: u64) -> Option<usize>
     requires { item ≤ largest }
     ensures { Lays out.old at (form item) out.new result }
@@ -25,7 +24,6 @@ fn put_item(out: &mut [u8], at: usize, item: u64) -> Option<usize>
 }
 
 // Items.
-#[tactic(auto, using(crate::proofs::LayTurns::start, crate::proofs::LayTurns::small_drop, crate::proofs::LayTurns::item_more, crate::proofs::LayTurns::item_stop, crate::proofs::LayTurns::items_done))]
 fn put_items(out: &mut [u8], at: usize, items: &[u64]) -> Option<usize>
     requires { Small items.now }
     ensures { Lays out.old at (forms items.now) out.new result }
@@ -38,7 +36,6 @@ fn put_items(out: &mut [u8], at: usize, items: &[u64]) -> Option<usize>
 }
 
 // "single bits, each SI, SCK up, SCK down".
-#[tactic(auto, using(crate::proofs::LayTurns::start, crate::proofs::LayTurns::bit_more, crate::proofs::LayTurns::bit_none, crate::proofs::LayTurns::bit_stop, crate::proofs::LayTurns::bits_done))]
 fn put_bits(out: &mut [u8], at: usize, word: &[u8]) -> Option<usize>
     ensures { Lays out.old at (forms (bit_items word.now)) out.new result }
 {
@@ -65,7 +62,6 @@ fn put_byte(out: &mut [u8], at: usize, selected: bool, byte: u64) -> Option<usiz
 }
 
 // What is said, as items.
-#[tactic(auto, using(crate::proofs::LayTurns::none))]
 pub(crate) fn put_said(
     out: &mut [u8],
     at: usize,

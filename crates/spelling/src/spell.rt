@@ -46,7 +46,6 @@ fn next_place(place: Place, c: u8) -> Place
 }
 
 // The place behind characters that begin a text.
-#[tactic(auto, using(crate::proofs::SpellTurns::place_turn, crate::proofs::SpellTurns::place_bound, crate::proofs::SpellTurns::place_end))]
 fn place_behind(front: &[u8]) -> Place
     requires { length front.now ≤ longest }
     ensures { result ≡ place_from 1 1 front.now }
@@ -59,7 +58,7 @@ fn place_behind(front: &[u8]) -> Place
 }
 
 // The place of the character at `i`; at the text's end where there is none.
-#[tactic(auto, using(crate::proofs::SpellTurns::place_whole), unfolding(crate::specs::Spelt::place_at))]
+#[tactic(auto, unfolding(crate::specs::Spelt::place_at))]
 fn place_at(text: &[u8], i: usize) -> Place
     requires { length text.now ≤ longest }
     ensures { result ≡ place_at text.now i }
@@ -84,7 +83,6 @@ fn fault_of(text: &[u8], stop: Stop) -> Fault
 }
 
 // Bytes from a place of a slice on, as many of them as have room there.
-#[tactic(auto, using(crate::proofs::SpellTurns::copy_none, crate::proofs::SpellTurns::copy_part))]
 pub fn copy(out: &mut [u8], at: usize, bytes: &[u8])
     ensures { out.new ≡ sets out.old at bytes.now }
 {
@@ -97,7 +95,7 @@ pub fn copy(out: &mut [u8], at: usize, bytes: &[u8])
 }
 
 // The trace is made in `trace`, and copied where the whole text is spelt.
-#[tactic(auto, using(crate::proofs::SpellTurns::spelt_fits, crate::proofs::SpellTurns::spelt_whole, crate::proofs::SpellTurns::fault_whole))]
+#[tactic(auto, using(crate::proofs::SpellTurns::spelt_fits))]
 fn spell_in(text: &[u8], trace: &mut [u8], out: &mut [u8]) -> Result<usize, Fault>
     requires text_len_bound { length text.now ≤ longest }
     requires trace_len { (length trace.old ≡ most_bytes) × (length out.old ≡ most_bytes) }
@@ -127,7 +125,6 @@ fn spell_by(
 
 // Puts the trace that a text spells at the front of `out`, whose rest stays, and answers its length. Where the text spells
 // none, it says why, and all of `out` stays.
-#[tactic(auto, using(crate::proofs::SpellTurns::too_long))]
 pub fn spell(text: &[u8], out: &mut [u8; MOST_BYTES]) -> Result<usize, Fault>
     ensures { Spells text.now out.old out.new result }
 {

@@ -39,7 +39,7 @@ fn here_after(selected: bool, said: Said, at: usize) -> Here
 }
 
 // Puts the items of what is said at a place behind the trace.
-#[tactic(auto, using(crate::proofs::MarkTurns::act_wrong, crate::proofs::MarkTurns::act_full, crate::proofs::MarkTurns::act_on))]
+#[tactic(auto, using(crate::proofs::MarkTurns::act_wrong, crate::proofs::MarkTurns::act_full))]
 fn act(
     out: &mut [u8],
     here: Here,
@@ -73,11 +73,10 @@ fn take_end(text: &[u8], i: usize, here: Here, out: &mut [u8]) -> Result<Here, S
     ensures { Follows text.now out.old here (line_end i ∷ []) out.new result }
 {
     let said = hear_end(here.selected, here.next);
-    act(out, here, i, &text[..0], said)
+    act(out, here, i, &[], said)
 }
 
 // The end of a line, where a character ends one.
-#[tactic(auto, using(crate::proofs::MarkTurns::none_taken))]
 fn turn_line(text: &[u8], i: usize, ends: bool, here: Here, out: &mut [u8]) -> Result<Here, Stop>
     ensures { Follows text.now out.old here (line_marks ends i) out.new result }
 {
@@ -89,7 +88,6 @@ fn turn_line(text: &[u8], i: usize, ends: bool, here: Here, out: &mut [u8]) -> R
 }
 
 // The word and the line that a character ends.
-#[tactic(auto, using(crate::proofs::MarkTurns::both_taken, crate::proofs::MarkTurns::stop_taken))]
 fn take_char(
     text: &[u8],
     i: usize,
@@ -134,7 +132,7 @@ fn finish(here: Here, end: usize) -> Result<Here, Stop>
 }
 
 // The whole text, character by character; its end ends its last line. Where it is wrong, the slice is of no use.
-#[tactic(auto, using(crate::proofs::TextTurns::ended_fits, crate::proofs::TextTurns::mode_fits, crate::proofs::TextTurns::char_on, crate::proofs::TextTurns::char_stop, crate::proofs::TextTurns::text_end, crate::proofs::TextTurns::text_start))]
+#[tactic(auto, using(crate::proofs::TextTurns::text_start, crate::proofs::TextTurns::char_stop))]
 pub(crate) fn pass(text: &[u8], out: &mut [u8]) -> Result<Here, Stop>
     requires { length text.now ≤ longest }
     ensures { passed result out.new ≡ wholly text.now out.old }
