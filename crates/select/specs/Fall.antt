@@ -1,6 +1,6 @@
 -- A seen fall of SCK: "Output moves on a seen fall of SCK once the header (op-code, and address for READ) is whole."
 -- Assumes nothing.
-use Rattle.std.specs.Prelude.{ℕ, ◌+◌, ◌-◌, Bool, cond, List, get_or, eqb, ltb}
+use Rattle.std.specs.Prelude.{ℕ, ◌+◌, ◌-◌, Bool, cond, List, get_or, eqb, ltb, Option, Some, None}
 use Rattle.std.specs.Int.Bits.{bit_or}
 use Rattle.parts.specs.Figures.{ident_bytes}
 use Rattle.parts.specs.declared.figures.Figure.{Figure}
@@ -30,6 +30,10 @@ show_status status bit = StatusOut (bit_of status bit) bit
 -- "RDID 9Fh shows the device bytes that 004 prints, then releases SO."
 unfoldable pub show_ident : Figure → ℕ → ℕ → Stage
 show_ident f at bit = IdentOut (bit_of (get_or f.ident at 0) bit) bit at
+
+-- past a byte the next, of so many that are shown once
+abbrev pub place_after : ℕ → ℕ → Option ℕ
+place_after count at = cond (ltb (at + 1) count) (Some (at + 1)) None
 
 unfoldable pub next_ident : Figure → ℕ → Stage
 next_ident f at = cond (ltb at (ident_bytes - 1)) (show_ident f (at + 1) 7) (Over Quiet)

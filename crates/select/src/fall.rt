@@ -1,12 +1,12 @@
 // A seen fall of SCK in a select: output moves.
 ghost use Rattle.std.specs.Prelude.{◌≡◌, get_or};
-ghost use Rattle.select.specs.Fall.{status_byte, show_array, show_status, show_ident, next_ident, show_serial, next_serial, fall, stage_level};
+ghost use Rattle.select.specs.Fall.{status_byte, show_array, show_status, show_ident, place_after, show_serial, fall, stage_level};
 
 use crate::notes::Level;
 use parts::figures::{Figure, IDENT};
 use stages::address::next_address;
 use stages::bits::bit_of;
-use stages::stage::{End, Line, Stage, What};
+use stages::stage::{End, Stage, What};
 
 // The status byte that RDSR shows.
 pub fn status_byte(f: Figure, kept: u8, latch: bool) -> u8
@@ -52,18 +52,6 @@ fn show_ident(f: Figure, at: usize, bit: u16) -> Stage
     Stage::IdentOut { level, bit, at }
 }
 
-// Past a byte of the identification: the next, or nothing more.
-#[tactic(auto, unfolding(crate::specs::Fall::next_ident))]
-fn next_ident(f: Figure, at: usize) -> Stage
-    ensures { result ≡ next_ident f at }
-{
-    if at < IDENT - 1 {
-        show_ident(f, at + 1, 7)
-    } else {
-        Stage::Over { end: End::Quiet }
-    }
-}
-
 // One bit of the serial number, as it is lent to this call, put on SO.
 #[tactic(auto, unfolding(crate::specs::Fall::show_serial))]
 fn show_serial(serial: &[u8], at: usize, bit: u16) -> Stage
@@ -74,22 +62,19 @@ fn show_serial(serial: &[u8], at: usize, bit: u16) -> Stage
     Stage::SerialOut { level, bit, at }
 }
 
-// Past a byte of the serial number: the next, or nothing more.
-#[tactic(auto, unfolding(crate::specs::Fall::next_serial))]
-fn next_serial(f: Figure, serial: &[u8], at: usize) -> Stage
-    ensures { result ≡ next_serial f serial.now at }
+// The place after this one, of so many bytes that are shown once.
+fn place_after(count: usize, at: usize) -> Option<usize>
+    ensures { result ≡ place_after count at }
 {
-    if at < f.serial {
-        let next = at + 1;
-        if next < f.serial {
-            return show_serial(serial, next, 7);
-        }
+    if at < count && at + 1 < count {
+        Some(at + 1)
+    } else {
+        None
     }
-    Stage::Over { end: End::Quiet }
 }
 
 // "Output moves on a seen fall of SCK once the header is whole." Every other stage stays.
-#[tactic(auto, unfolding(crate::specs::Fall::fall))]
+#[tactic(auto, unfolding(crate::specs::Fall::fall, crate::specs::Fall::next_ident, crate::specs::Fall::next_serial))]
 pub fn fall(f: Figure, array: &[u8], serial: &[u8], status: u8, stage: Stage) -> Stage
     ensures { result ≡ fall f serial.now array.now status stage }
 {
@@ -116,14 +101,20 @@ pub fn fall(f: Figure, array: &[u8], serial: &[u8], status: u8, stage: Stage) ->
         }
         Stage::IdentOut { bit, at, .. } => {
             if bit == 0 {
-                next_ident(f, at)
+                match place_after(IDENT, at) {
+                    Some(next) => show_ident(f, next, 7),
+                    None => Stage::Over { end: End::Quiet },
+                }
             } else {
                 show_ident(f, at, bit - 1)
             }
         }
         Stage::SerialOut { bit, at, .. } => {
             if bit == 0 {
-                next_serial(f, serial, at)
+                match place_after(f.serial, at) {
+                    Some(next) => show_serial(serial, next, 7),
+                    None => Stage::Over { end: End::Quiet },
+                }
             } else {
                 show_serial(serial, at, bit - 1)
             }
@@ -144,22 +135,10 @@ pub fn stage_level(stage: Stage) -> Level
         Stage::Lower { .. } => Level::Released,
         Stage::Dummy { .. } => Level::Released,
         Stage::Ready { .. } => Level::Released,
-        Stage::ArrayOut { level, .. } => match level {
-            Line::Down => Level::Low,
-            Line::Up => Level::High,
-        },
-        Stage::StatusOut { level, .. } => match level {
-            Line::Down => Level::Low,
-            Line::Up => Level::High,
-        },
-        Stage::IdentOut { level, .. } => match level {
-            Line::Down => Level::Low,
-            Line::Up => Level::High,
-        },
-        Stage::SerialOut { level, .. } => match level {
-            Line::Down => Level::Low,
-            Line::Up => Level::High,
-        },
+        Stage::ArrayOut { level, .. } => Level::from(level),
+        Stage::StatusOut { level, .. } => Level::from(level),
+        Stage::IdentOut { level, .. } => Level::from(level),
+        Stage::SerialOut { level, .. } => Level::from(level),
         Stage::Writing { .. } => Level::Released,
         Stage::Keeping { .. } => Level::Released,
         Stage::Over { .. } => Level::Released,

@@ -1,14 +1,28 @@
 // What an answer says: the level of SO, and one note.
 ghost use Rattle.std.specs.Prelude.{◌≡◌};
+ghost use Rattle.select.specs.Fall.{line_level};
 ghost use Rattle.select.specs.Notes.{level_number};
 
 use parts::guards::Reason;
+use stages::stage::Line;
 
 #[derive(Clone, Copy)]
 pub enum Level {
     Low,
     High,
     Released,
+}
+
+// A level that is driven.
+impl From<Line> for Level {
+    ghost from_gives = { λ line level. level ≡ line_level line };
+
+    fn from(line: Line) -> Level {
+        match line {
+            Line::Down => Level::Low,
+            Line::Up => Level::High,
+        }
+    }
 }
 
 // "0, 1, or 2 for released"
