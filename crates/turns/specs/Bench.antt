@@ -81,7 +81,7 @@ pub record Desk : Type 0 where
 
 -- the bench of a program, with what is printed on its page
 abbrev pub desk_of : Lent → Desk
-desk_of b = record { refusal = b.refusal; stand = b.stand; array = b.array.now; shown = b.shown; page = page_in b.page }
+desk_of b = record { refusal = b.refusal; stand = b.stand; array = b.array.now; shown = b.shown; page = page_in b.page.now }
 
 -- a bench whose text is printed behind what the page has
 abbrev pub on_page : Page → Bench → Desk
@@ -95,5 +95,6 @@ bench_of b = record { refusal = b.refusal; stand = b.stand; array = b.array.now;
 -- a program takes the bench to where `f` leads it, and prints the text since; the array and the page are those that were lent
 pub record Takes (before : Lent) (f : Bench → Bench) (after : Lent) : Type 0 where
   pub same_array : after.array.ghost_name ≡ before.array.ghost_name
-  pub same_slice : after.page.out.ghost_name ≡ before.page.out.ghost_name
-  pub desk : desk_of after ≡ on_page (page_in before.page) (f (bench_of before))
+  pub same_page : after.page.ghost_name ≡ before.page.ghost_name
+  pub same_slice : after.page.now.out.ghost_name ≡ before.page.now.out.ghost_name
+  pub desk : desk_of after ≡ on_page (page_in before.page.now) (f (bench_of before))

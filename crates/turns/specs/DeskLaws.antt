@@ -51,12 +51,12 @@ tells_events (e ∷ es) t b = ap (λ (x : Bench). after_events x es) (go (runs_o
     go false = refl
 
 -- a bench that told nothing yet
-pub desk_is : (b : Lent) → desk_of b ≡ on_page (page_in b.page) (bench_of b)
-desk_is b = λ i. record { refusal = b.refusal; stand = b.stand; array = b.array.now; shown = b.shown; page = sym (print_none (page_in b.page)) i }
+pub desk_is : (b : Lent) → desk_of b ≡ on_page (page_in b.page.now) (bench_of b)
+desk_is b = λ i. record { refusal = b.refusal; stand = b.stand; array = b.array.now; shown = b.shown; page = sym (print_none (page_in b.page.now)) i }
 
 -- a run that goes on from a program's bench is the run that goes on from the bench that it is, with its text printed first
 pub carry : (f : Bench → Bench) → Tells f → (y : Lent) (p : Page) (b : Bench) → desk_of y ≡ on_page p b
-    → on_page (page_in y.page) (f (bench_of y)) ≡ on_page p (f b)
+    → on_page (page_in y.page.now) (f (bench_of y)) ≡ on_page p (f b)
 carry f tells y p b e =
     ap (λ (q : Page). on_page q (f (bench_of y))) (λ i. (e i).page)
     ∙ sym (behind b.text (f (bench_of y)))

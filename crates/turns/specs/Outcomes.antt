@@ -8,7 +8,7 @@ use Rattle.turns.specs.declared.turn.Bench.{Bench as Lent}
 pub desk_one : (desk : Desk) (x y : Lent) → desk_of x ≡ desk → desk_of y ≡ desk
     → (x.refusal ≡ y.refusal)
     × ((x.stand ≡ y.stand)
-    × ((x.page.at ≡ y.page.at) × ((x.array.now ≡ y.array.now) × ((x.shown ≡ y.shown) × (x.page.out.now ≡ y.page.out.now)))))
+    × ((x.page.now.at ≡ y.page.now.at) × ((x.array.now ≡ y.array.now) × ((x.shown ≡ y.shown) × (x.page.now.out.now ≡ y.page.now.out.now)))))
 desk_one desk x y p q =
     let e : desk_of x ≡ desk_of y = p ∙ sym q in (
       (λ i. (e i).refusal),

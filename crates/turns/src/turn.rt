@@ -11,18 +11,18 @@ use report::record::SHOWN;
 // The bench in the course of a run: the refusal that stopped it, if any, what stands on it, the array, the first bytes of SO in
 // the last select, and the page that the lines of the selects are printed on.
 #[derive(Drop)]
-pub struct Bench<'a> {
+pub struct Bench<'a, 'b> {
     pub refusal: Option<Refusal>,
     pub stand: Stand,
     pub array: &'a mut [u8],
     pub shown: [u8; SHOWN],
-    pub page: Page<'a>,
+    pub page: &'a mut Page<'b>,
 }
 
 // "replay uses eight bytes 00" (document 02, Wish 8): the serial number that is lent with every event.
 pub const REPLAY_SERIAL: [u8; SERIAL] = [0; SERIAL];
 
-impl Bench<'_> {
+impl Bench<'_, '_> {
     // One event. A select that it closes has its line printed.
     pub fn take_event(&mut self, code: u64)
         ensures { Takes self.old (λ b. after_event b code) self.new }

@@ -10,6 +10,7 @@ returns-then-is_some c = stays (pulse_stays 1 c.args.bench.now (given _ c.is_som
 pub returns-then-is_some-2 : goal.returns-then-is_some-2
 returns-then-is_some-2 c = record {
   same_array = c.take_event.ensures.same_array;
+  same_page = c.take_event.ensures.same_page;
   same_slice = c.take_event.ensures.same_slice;
   desk =
       pulse_stops c.args.bench.now c.take_event.new.self (not_given _ c.is_some.ensures c.if-is_some.false) c.take_event.ensures.desk
@@ -19,6 +20,7 @@ returns-then-is_some-2 c = record {
 pub returns : goal.returns
 returns c = record {
   same_array = c.take_event-2.ensures.same_array ∙ c.take_event.ensures.same_array;
+  same_page = c.take_event-2.ensures.same_page ∙ c.take_event.ensures.same_page;
   same_slice = c.take_event-2.ensures.same_slice ∙ c.take_event.ensures.same_slice;
   desk =
       pulse_ends c.args.bench.now c.take_event.new.self (not_given _ c.is_some.ensures c.if-is_some.false) c.take_event.ensures.desk

@@ -17,6 +17,7 @@ module _ {start : Lent} {all : Bench → Bench} where
       → Leads start all (record here { stand = r.stand; array = array }) (pulsed r.left)
   skipped {here} n r array same on skips l = record {
     same_array = same ∙ l.same_array;
+    same_page = l.same_page;
     same_slice = l.same_slice;
     desk = skips_on n here r array on skips ∙ l.desk;
   }
