@@ -1,5 +1,5 @@
 -- Bytes put one behind the other: one trace number by the write call, then item by item. Assumes nothing.
-use mathlib.Core.Path.{◌≡◌, refl, sym, ap, ◌∙◌}
+use mathlib.Core.Path.{◌≡◌, sym, ap, ◌∙◌}
 use mathlib.Core.Logic.{⊎_elim}
 use mathlib.Core.List.{List, [], ◌∷◌, ◌++◌}
 use Prim.Native.Nat.{ℕ, suc, ◌+◌, ◌-◌, ◌≤◌, ◌<◌}
@@ -99,9 +99,6 @@ pub record Laying (s : List ℕ) (first : ℕ) (all t : List ℕ) (at : ℕ) (re
   pub room : first ≤ at
   pub fits : at - first ≤ length s - first
 
-pub start : (s : List ℕ) (first : ℕ) (all : List ℕ) → Laying s first all s first all
-start s first all = record { bytes = refl; size = refl; place = refl; room = omega arith; fits = omega arith }
-
 -- one piece of it more
 module _ {s all t x piece left : List ℕ} {first at : ℕ} (rest : List ℕ) (l : Laying s first all t at left) (e : left ≡ piece ++ rest) where
   pub more : {next : ℕ} {r : Option ℕ} → Lays t at piece x r → r ≡ Some next → Laying s first all x next rest
@@ -116,19 +113,6 @@ module _ {s all t x piece left : List ℕ} {first at : ℕ} (rest : List ℕ) (l
         room = omega (arith, l.room);
         fits = omega (arith, l.fits, l.size, l.room);
       }
-
-  pub stop : {r : Option ℕ} → Lays t at piece x r → r ≡ None → Lays s first all x None
-  stop p is-full =
-      let q = full (length t) at (length piece) (sym is-full ∙ p.answer) in
-      let sum = ap length e ∙ length-append piece rest in
-      let long : length s - first < length all = omega (arith, l.place, l.size, l.room) in
-      record { answer = sym (rw (lt-leb (length all) (length s - first) long)); there = λ r. absurd (omega arith) }
-
-pub done : {s all t : List ℕ} {first at : ℕ} → Laying s first all t at [] → Lays s first all t (Some at)
-done {s} {all} {t} {first} {at} l =
-    let fit : length all ≤ length s - first = omega (arith, l.place, l.fits, l.room) in
-    let end : at ≡ first + length all = omega (arith, l.place) in
-    record { answer = ap Some end ∙ sym (rw (le-leb (length all) (length s - first) fit)); there = λ r. l.bytes }
 
 -- ---- items
 
@@ -163,8 +147,3 @@ module _ (word : List ℕ) (i : ℕ) (h : i < length word) where
       {s all t : List ℕ} {first at : ℕ} → Laying s first all t at (forms (bit_items (drop i word))) → (d : Option ℕ) → d ≡ digit_of (get_or word i 0) → d ≡ None
       → Laying s first all t at (forms (bit_items (drop (i + 1) word)))
   bit_none l d e f = rw (rw f at (bits_drop d e)) at l
-
--- ---- nothing
-
-pub none : (s : List ℕ) (at : ℕ) → Lays s at [] s (Some at)
-none s at = done (start s at [])
