@@ -10,6 +10,7 @@ pub const IDENT: usize = 9;
 // How many bytes a serial number has: "a serial number of eight bytes".
 pub const SERIAL: usize = 8;
 
+// Where 0 says none, it is a mask of no bits or a length of nothing, which the rules read as any other: no Option.
 #[derive(Clone, Copy)]
 pub struct Figure {
     // Bytes of the array.
@@ -195,7 +196,7 @@ pub const PARTS: [Figure; ROWS] = [NO_PART, FM25L04, FM25L04B, FM25C160, FM25V01
 // The largest array's bytes, for whoever lends one to a part that is not known yet (`largest`, specs/FigureLaws).
 pub const LARGEST: usize = 16384;
 
-// Whether there is a part of this number.
+// Whether there is a part of this number. It is as wide as a caller's: other numbers have answers too.
 pub fn is_part(part: u64) -> bool
     ensures { result ≡ is_part part }
 {

@@ -2,7 +2,8 @@
 ghost use Rattle.std.specs.Prelude.{◌≡◌};
 ghost use Rattle.pins.specs.Levels.{hold_high};
 
-// The level of /HOLD; where it is low, with the level of /CS, whose moves are not seen then.
+// The level of /HOLD; where it is low, with the level of /CS, whose moves are not seen then. No Option: a payload here costs
+// every event more (docs/SPEED.md).
 #[derive(Clone, Copy)]
 pub enum Hold {
     High,

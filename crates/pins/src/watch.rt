@@ -15,7 +15,7 @@ pub fn is_open(s: State) -> bool
     !is_closed(stage)
 }
 
-// Whether this event is a seen rise of SCK in an open select.
+// Whether this event is a seen rise of SCK in an open select. By its code, which may be no event's.
 #[tactic(auto, unfolding(crate::specs::Watch::sees_rise))]
 pub fn sees_rise(s: State, code: u64) -> bool
     ensures { result ≡ sees_rise s code }

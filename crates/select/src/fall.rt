@@ -15,14 +15,14 @@ pub fn status_byte(f: Figure, kept: u8, latch: bool) -> u8
     if latch { kept | f.latch } else { kept }
 }
 
-// The byte at an address, as the array is lent to this call; past its end 0.
+// The byte at an address, as the array is lent to this call; past its end 0. By `get` a fall costs more (docs/SPEED.md).
 fn byte_at(array: &[u8], at: usize) -> u8
     ensures { result ≡ get_or array.now at 0 }
 {
     if at < array.len() { array[at] } else { 0 }
 }
 
-// One bit of the array put on SO.
+// One bit of the array put on SO. What is shown has a function each: one over `What` costs every event more (docs/SPEED.md).
 #[tactic(auto, unfolding(crate::specs::Fall::show_array))]
 fn show_array(array: &[u8], at: usize, bit: u16) -> Stage
     ensures { result ≡ show_array array.now at bit }
@@ -123,7 +123,7 @@ pub fn fall(f: Figure, array: &[u8], serial: &[u8], status: u8, stage: Stage) ->
     }
 }
 
-// The level that a select puts on SO.
+// The level that a select puts on SO. The stages are named: one arm for all that drive it costs every event more (docs/SPEED.md).
 pub fn stage_level(stage: Stage) -> Level
     ensures { result ≡ stage_level stage }
 {

@@ -12,7 +12,7 @@ use stages::last::last_by;
 use stages::stage::{Came, End, Line, Purpose, Stage, What};
 use stages::wp::{byte_came, byte_wp, came_up, is_up};
 
-// What a rise reads besides the stage.
+// What a rise reads besides the stage. The part's row goes beside it: in a struct it would be copied (docs/SPEED.md).
 #[derive(Clone, Copy)]
 pub struct Seen {
     pub latch: bool,

@@ -4,7 +4,7 @@ ghost use Rattle.stages.specs.Bits.{take_bit, bit_of};
 
 use crate::stage::Line;
 
-// A byte after one more bit.
+// A byte after one more bit. Neither case is a failure, so it is no Result.
 #[derive(Clone, Copy)]
 pub enum Taken {
     Part(u16),
