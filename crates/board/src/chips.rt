@@ -40,7 +40,7 @@ pub(crate) fn lengths_of(state: State) -> Lengths
     ensures array { result.array ≡ piece_length state.part }
     ensures serials { result.serials ≡ serial_length state.part }
 {
-    part_lengths(state.part as u64)
+    part_lengths(u64::from(state.part))
 }
 
 // How long the pieces of these chips are together.

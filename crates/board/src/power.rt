@@ -36,13 +36,11 @@ pub struct PoweredBoard {
 fn in_mask(asked: Asked) -> bool
     ensures { result ≡ in_mask asked.part asked.kept }
 {
-    let kept = asked.kept;
-    let f = figure_of(asked.part);
-    kept & (f.kept as u64) == kept
+    let mask = u64::from(figure_of(asked.part).kept);
+    asked.kept & mask == asked.kept
 }
 
 // How long the pieces of the slice are together.
-#[tactic(auto, unfolding(crate::specs::Chips::sum))]
 fn together_asked(chips: &[Asked]) -> usize
     requires { length chips.now ≤ 8 }
     ensures { result ≡ together_asked chips.now }
