@@ -8,6 +8,7 @@ use native.Mathlib.Nat.{eq-or-lt_of_le}
 use native.Mathlib.Omega.{arith}
 use borrow.Author.Tests.{ne_eqb}
 use lib.ListN.{length}
+use Rattle.refusals.specs.RefusalLaws.{given_at}
 use Rattle.trace.specs.Answers.{Value, num, end, number_read}
 use Rattle.trace.specs.Number.{reading}
 use Rattle.trace.specs.NumberLaws.{forward}
@@ -15,7 +16,7 @@ use Rattle.trace.specs.ScanLaws.{reading_beyond, reading_end}
 use Rattle.bench.specs.Run.{Items, no_item, item_then, read_on, items_in, items_from}
 
 module _ (s : List ℕ) where
-  none_left : (at : ℕ) (more : ℕ → Items) → length s ≤ at → read_on (reading s at) more ≡ no_item (reading s at).refusal
+  none_left : (at : ℕ) (more : ℕ → Items) → length s ≤ at → read_on (reading s at) more ≡ no_item (given_at (reading s at).refusal)
   none_left at more h =
       ⊎_elim (λ q. rw (reading_end s at (sym q))) (λ l. rw (reading_beyond s at l)) (eq-or-lt_of_le h)
 

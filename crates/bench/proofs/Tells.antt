@@ -3,6 +3,8 @@ use mathlib.Core.Path.{◌≡◌, refl, ap, ◌∙◌}
 use mathlib.Core.Bool.{Bool, true, false, cond}
 use mathlib.Core.List.{List, [], ◌∷◌}
 use Prim.Native.Nat.{ℕ}
+use Rattle.std.specs.Prelude.{Option}
+use Rattle.refusals.specs.declared.refusal.Refusal.{Refusal}
 use Rattle.trace.specs.Items.{item_events}
 use Rattle.turns.specs.Bench.{Bench, runs_on, stopped}
 use Rattle.turns.specs.DeskLaws.{front, Tells, tells_events}
@@ -19,6 +21,6 @@ tells_ran s at t b =
     ap (λ (x : Bench). ended_by x (items_from s at).refusal) (tells_items (items_from s at).numbers t b)
     ∙ go (after_items b (items_from s at).numbers) (items_from s at).refusal (runs_on (after_items b (items_from s at).numbers))
   where
-    go : (x : Bench) (row : ℕ) (v : Bool) → cond v (stopped (front t x) row) (front t x) ≡ front t (cond v (stopped x row) x)
+    go : (x : Bench) (row : Option Refusal) (v : Bool) → cond v (stopped (front t x) row) (front t x) ≡ front t (cond v (stopped x row) x)
     go x row true = refl
     go x row false = refl

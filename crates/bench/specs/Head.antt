@@ -1,5 +1,8 @@
 -- The two numbers that lead a trace. Assumes nothing.
-use Rattle.std.specs.Prelude.{ℕ, cond, List, eqb, ltb}
+use Rattle.std.specs.Prelude.{ℕ, cond, List, eqb, ltb, Result, Ok, Err}
+use Rattle.refusals.specs.RefusalLaws.{refusal_at}
+use Rattle.refusals.specs.declared.refusal.Refusal.{Refusal}
+use Rattle.refusals.specs.declared.refusal.Refusal.TheVariants.{Malformed, TooLarge}
 use Rattle.trace.specs.Answers.{Told, Value, num, end}
 use Rattle.trace.specs.Figures.{last_byte}
 use Rattle.trace.specs.Number.{reading}
@@ -7,27 +10,25 @@ use Rattle.bench.specs.declared.head.Lead.{Lead}
 use Rattle.bench.specs.declared.head.Head.{Head}
 
 -- "The first two numbers of a trace stay below 268." "9 is given .. by replay for a leading number above 267, as it is read"
-abbrev pub led : ℕ → ℕ → ℕ → Lead
-led row n place =
-    cond (ltb last_byte n) (record { refusal = 9; value = 0; next = place }) (record { refusal = row; value = n; next = place })
-
+abbrev pub led : Value → ℕ → Result Lead Refusal
+led (num n) place = cond (ltb last_byte n) (Err TooLarge) (Ok (record { value = n; next = place }))
 -- ""end" in place of either is refusal 8"
-abbrev pub valued : ℕ → Value → ℕ → Lead
-valued row (num n) place = led row n place
-valued row end place = record { refusal = 8; value = 0; next = place }
+led end place = Err Malformed
 
-abbrev pub lead_of : Told → Lead
-lead_of t = valued t.refusal t.value t.place
+abbrev pub lead_of : Told → Result Lead Refusal
+lead_of t = cond (eqb t.refusal 0) (led t.value t.place) (Err (refusal_at t.refusal))
 
-unfoldable pub leading : List ℕ → ℕ → Lead
+unfoldable pub leading : List ℕ → ℕ → Result Lead Refusal
 leading s at = lead_of (reading s at)
 
-abbrev pub both : Lead → Lead → Head
-both first second =
-    cond (eqb first.refusal 0)
-    (record { refusal = second.refusal; part = first.value; kept = second.value; items = second.next })
-    (record { refusal = first.refusal; part = 0; kept = 0; items = 0 })
+abbrev pub both : Lead → Result Lead Refusal → Result Head Refusal
+both part (Ok kept) = Ok (record { part = part.value; kept = kept.value; items = kept.next })
+both part (Err why) = Err why
+
+abbrev pub first_of : List ℕ → Result Lead Refusal → Result Head Refusal
+first_of s (Ok part) = both part (leading s part.next)
+first_of s (Err why) = Err why
 
 -- "It reads both leading numbers before power-up": the first number's refusal comes first
-unfoldable pub head_of : List ℕ → Head
-head_of s = both (leading s 0) (leading s (leading s 0).next)
+unfoldable pub head_of : List ℕ → Result Head Refusal
+head_of s = first_of s (leading s 0)

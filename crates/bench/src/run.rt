@@ -1,149 +1,84 @@
 // The run of a trace: power-up, then item by item.
-ghost use Rattle.std.specs.Prelude.{◌≡◌, []};
-ghost use Rattle.turns.specs.Bench.{bench_of, desk_of, on_page, after_events};
-ghost use Rattle.turns.specs.Page.{page_of, printed};
+ghost use Rattle.std.specs.Prelude.{◌≡◌};
+ghost use Rattle.supply.specs.Power.{power_up, fresh, filled};
+ghost use Rattle.turns.specs.Bench.{Takes, after_events};
+ghost use Rattle.turns.specs.Prints.{Prints};
 ghost use Rattle.trace.specs.Items.{short_events};
-ghost use Rattle.bench.specs.Run.{after_item, ran_from, started, ran, replayed};
+ghost use Rattle.bench.specs.Run.{after_item, ran_from, first_text};
 
-use crate::head::{Head, head_of};
-use parts::figures::{LARGEST, figure_of};
-use pins::state::State;
+use crate::head::Head;
+use parts::figures::figure_of;
 use pulses::run::take_pulses;
-use report::record::SHOWN;
-use supply::power::{fill, power_up};
-use trace::answer::{Read, number_of};
+use supply::power::{Powered, fill, power_up};
+use trace::answer::Read;
 use trace::items::{event_of, events_of, pulses_of};
 use trace::reader::number_at;
-use turns::page::print_part;
-use turns::stand::Stand;
-use turns::turn::{Turn, take_event};
+use turns::page::Page;
+use turns::turn::Bench;
 
 // An event or a data byte: its events, up to the first that is refused.
-fn take_short(
-    turn: Turn,
-    array: &mut [u8],
-    shown: &mut [u8; SHOWN],
-    out: &mut [u8],
-    item: u64,
-) -> Turn
-    ensures { desk_of result array.new shown.new out.new
-        ≡ on_page (page_of out.old turn.at)
-        (after_events (bench_of turn array.old shown.old) (short_events item)) }
+fn take_short(bench: &mut Bench, item: u64)
+    ensures { Takes bench.old (λ b. after_events b (short_events item)) bench.new }
 {
-    let events = events_of(item);
-    let mut turn = turn;
-    let mut k = 0;
-    while k < events {
-        if turn.refusal != 0 {
-            return turn;
+    for k in 0..events_of(item) {
+        if bench.refusal.is_some() {
+            return;
         }
-        turn = take_event(turn, array, shown, out, event_of(item, k));
-        k += 1;
+        bench.take_event(event_of(item, k));
     }
-    turn
 }
 
 // One item. A run of pulses has a way of its own.
-fn take_item(
-    turn: Turn,
-    array: &mut [u8],
-    shown: &mut [u8; SHOWN],
-    out: &mut [u8],
-    item: u64,
-) -> Turn
-    ensures { desk_of result array.new shown.new out.new
-        ≡ on_page (page_of out.old turn.at) (after_item (bench_of turn array.old shown.old) item) }
+fn take_item(bench: &mut Bench, item: u64)
+    ensures { Takes bench.old (λ b. after_item b item) bench.new }
 {
     let pulses = pulses_of(item);
     if 0 < pulses {
-        return take_pulses(turn, array, shown, out, pulses);
+        take_pulses(bench, pulses);
+    } else {
+        take_short(bench, item);
     }
-    take_short(turn, array, shown, out, item)
 }
 
 // The items from `at` on, up to the end or the first refusal.
-fn take_items(
-    trace: &[u8],
-    at: usize,
-    turn: Turn,
-    array: &mut [u8],
-    shown: &mut [u8; SHOWN],
-    out: &mut [u8],
-) -> Turn
-    ensures { desk_of result array.new shown.new out.new
-        ≡ on_page (page_of out.old turn.at)
-        (ran_from trace.now at (bench_of turn array.old shown.old)) }
+pub(crate) fn take_items(bench: &mut Bench, trace: &[u8], at: usize)
+    ensures { Takes bench.old (ran_from trace.now at) bench.new }
 {
-    let mut turn = turn;
     let mut place = at;
-    while turn.refusal == 0 {
+    while bench.refusal.is_none() {
         match number_at(trace, place) {
-            Read::Number { value, next } => {
-                turn = take_item(turn, array, shown, out, value);
+            Ok(Read::Number { value, next }) => {
+                take_item(bench, value);
                 place = next;
             }
-            Read::End { at: _ } => {
-                return turn;
-            }
-            Read::Refused { refusal, at: _ } => {
-                turn.refusal = number_of(refusal);
-                return turn;
+            Ok(Read::End { .. }) => return,
+            Err(refused) => {
+                bench.refusal = Some(refused.refusal);
+                return;
             }
         }
     }
-    turn
 }
 
-// Power-up, with a fresh array. Line 1 is printed where it is accepted; SO showed nothing yet.
-fn start(lead: Head, array: &mut [u8], out: &mut [u8]) -> Turn
-    ensures { desk_of result array.new [] out.new
-        ≡ on_page (page_of out.old 0) (started lead array.old []) }
+// Line 1, where the power-up is accepted.
+fn print_first(page: &mut Page, head: Head, powered: Powered)
+    ensures { Prints page.old (first_text head powered) page.new }
 {
-    fill(lead.part, array);
-    let powered = power_up(lead.part, lead.kept, array);
-    let chip = powered.state;
-    let stand = Stand::new(chip);
-    if powered.refusal != 0 {
-        return Turn {
-            refusal: powered.refusal,
-            stand,
-            at: 0,
-        };
-    }
-    let size = figure_of(lead.part).size;
-    Turn {
-        refusal: 0,
-        stand,
-        at: print_part(out, 0, lead.part, size as u64, chip.kept),
+    if powered.refusal.is_none() {
+        let size = figure_of(head.part).size;
+        page.print_part(head.part, size as u64, powered.state.kept);
     }
 }
 
-// From power-up on, with an array of the part's size.
-fn run(trace: &[u8], lead: Head, array: &mut [u8], shown: &mut [u8; SHOWN], out: &mut [u8]) -> Turn
-    ensures { desk_of result array.new shown.new out.new
-        ≡ on_page (page_of out.old 0) (ran trace.now lead array.old shown.old) }
+// Power-up, with a fresh array. Line 1 is printed where it is accepted.
+pub(crate) fn start(head: Head, array: &mut [u8], page: &mut Page) -> Powered
+    ensures power { result ≡ power_up head.part head.kept array.new }
+    ensures all_fresh { array.new ≡ filled head.part fresh array.old }
+    ensures prints { Prints page.old (first_text head result) page.new }
 {
-    let turn = start(lead, array, out);
-    take_items(trace, lead.items, turn, array, shown, out)
-}
-
-// The whole run, but for what is left to tell at its end.
-pub(crate) fn run_whole(trace: &[u8], shown: &mut [u8; SHOWN], out: &mut [u8]) -> Turn
-    ensures refusal_value { result.refusal ≡ (replayed trace.now shown.old).refusal }
-    ensures stand_value { result.stand ≡ (replayed trace.now shown.old).stand }
-    ensures shown_after { shown.new ≡ (replayed trace.now shown.old).shown }
-    ensures page_after { page_of out.new result.at
-        ≡ printed (page_of out.old 0) (replayed trace.now shown.old).text }
-{
-    let lead = head_of(trace);
-    if lead.refusal != 0 {
-        return Turn {
-            refusal: lead.refusal,
-            stand: Stand::new(State::at_rest(1, 0, false)),
-            at: 0,
-        };
-    }
-    let mut array = [0u8; LARGEST];
-    let size = figure_of(lead.part).size;
-    run(trace, lead, &mut array[..size], shown, out)
+    // A part or an array that the fill refuses is refused by the power-up too.
+    let _ = fill(head.part, array);
+    let powered = power_up(head.part, head.kept, array);
+    print_first(page, head, powered);
+    powered
 }

@@ -1,29 +1,22 @@
--- After k events the bench is where the first k events of the item lead, so the others lead on from there; a refused
--- one ends it.
-use mathlib.Core.Path.{◌≡◌, ◌∙◌}
-use Prim.Native.Nat.{◌-◌}
-use lib.ListN.{length, drop}
+-- After k events the others lead on from there; a refused one ends it.
+use Rattle.std.specs.Prelude.{drop}
 use Rattle.trace.specs.Items.{short_events}
-use Rattle.turns.specs.Bench.{after_events, bench_of, on_page}
-use Rattle.turns.specs.Page.{page_of}
+use Rattle.turns.proofs.Leads.{at_start, taken, at_end, given, not_given}
 use Rattle.turns.specs.EventLaws.{events_on, events_end, events_over}
-use borrow.Author.Rules.{rules}
 use Rattle.bench.proofs.run.take_short.Goals as goal
+
+pub loop-k-init : goal.loop-k-init
+loop-k-init c = at_start _ _
 
 pub loop-k-preserved : goal.loop-k-preserved
 loop-k-preserved c =
-    let taken = c in
-    let on = taken in
-    let test = on in (
-      search rules,
-      search rules,
-      events_on _ _ _ _ _ _ _ _ _ _ _ _ test.events_of-events.ensures test.loop-k-test.true
-          taken.event_of.ensures on.if-turn-ne0.false taken.take_event-turn.ensures
-          ∙ test.loop-k.invariant.2,
-    )
+    taken c.take_event.ensures
+    (events_on _ c.loop-k.k _ _ c.loop-k.bench c.take_event.new.self c.events_of-k-end.ensures c.loop-k-test.true c.event_of.ensures
+    (not_given _ c.is_some.ensures c.if-is_some.false) c.take_event.ensures.desk)
+    c.loop-k.invariant
 
-pub returns-then-turn-ne0 : goal.returns-then-turn-ne0
-returns-then-turn-ne0 c = search (events_end, ◌∙◌)
+pub returns-then-is_some : goal.returns-then-is_some
+returns-then-is_some c = at_end (events_end (drop c.loop-k.k (short_events c.args.item)) c.loop-k.bench (given _ c.is_some.ensures c.if-is_some.true)) c.loop-k.invariant
 
 pub returns : goal.returns
-returns c = search (events_over, ◌∙◌)
+returns c = at_end (events_over _ _ _ c.loop-k.bench c.events_of-k-end.ensures c.loop-k-test.false) c.loop-k.invariant

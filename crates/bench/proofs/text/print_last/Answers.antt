@@ -1,7 +1,6 @@
 -- The line of an open select, then the last line, is the two as one text.
-use Rattle.turns.specs.PrintLaws.{print_then}
-use borrow.Author.Rules.{rules}
+use Rattle.turns.proofs.Pages.{◌then◌}
 use Rattle.bench.proofs.text.print_last.Goals as goal
 
-pub returns : goal.returns
-returns c = search print_then
+pub returns-clause-prints : goal.returns-clause-prints
+returns-clause-prints c = c.print_open.ensures then c.print_end.ensures

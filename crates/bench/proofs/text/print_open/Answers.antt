@@ -1,6 +1,6 @@
 -- A select that is open has its line; else nothing is printed.
-use Rattle.turns.specs.PrintLaws.{print_not}
+use Rattle.turns.proofs.Pages.{where_not}
 use Rattle.bench.proofs.text.print_open.Goals as goal
 
-pub returns : goal.returns
-returns c = search print_not
+pub returns-else-is_open : goal.returns-else-is_open
+returns-else-is_open c = where_not _ _ _ _ c.is_open.ensures c.if-is_open.false

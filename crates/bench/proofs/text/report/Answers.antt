@@ -1,8 +1,18 @@
--- The text of the run, then what is left to tell at its end.
-use mathlib.Core.Path.{refl}
-use Rattle.bench.proofs.Runs.{report_whole}
-use borrow.Author.Rules.{rules}
+-- Both numbers are read, and the array that is made is no smaller than the part's; or one is refused, and the last line says so.
+use Rattle.std.proofs.Common.{rules, sym, length-take-le, ◌∙◌}
+use Rattle.parts.specs.FigureLaws.{largest}
+use Rattle.bench.proofs.Runs.{report_led, report_not}
 use Rattle.bench.proofs.text.report.Goals as goal
 
-pub returns : goal.returns
-returns c = search (report_whole, refl)
+pub slice_bounds-array-end : goal.slice_bounds-array-end
+slice_bounds-array-end c = rw c.figure_of-size.ensures (largest _)
+
+pub slice_bounds-report_run-end : goal.slice_bounds-report_run-end
+slice_bounds-report_run-end c = sym (length-take-le _ _ (rw c.figure_of-size.ensures (largest _)))
+
+pub returns-in-Ok : goal.returns-in-Ok
+returns-in-Ok c = report_led _ _ _ _ _ (sym c.in-Ok.is ∙ c.head_of.ensures) c.figure_of-size.ensures c.report_run.ensures
+
+pub returns-in-Err : goal.returns-in-Err
+returns-in-Err c =
+    report_not c.args.trace.now c.args.out.now c.in-Err.refusal _ (sym c.in-Err.is ∙ c.head_of.ensures) (search (rules, ◌∙◌))
