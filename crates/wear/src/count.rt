@@ -19,7 +19,8 @@ fn one_more(count: u32) -> u32
     count.saturating_add(1)
 }
 
-// Whether the byte touched last before lay in the row of the byte touched last after, in rows of so many bytes.
+// Whether the byte touched last before lay in the row of the byte touched last after, in rows of so many bytes. Before, 0 is none:
+// so the state keeps it, in four bytes (docs/SPEED.md).
 fn same_row(size: usize, before: u32, after: u32) -> bool
     requires size_nonzero { 0 < size }
     requires after_nonzero { 0 < after }
@@ -31,7 +32,8 @@ fn same_row(size: usize, before: u32, after: u32) -> bool
     (before - 1) as usize / size == (after - 1) as usize / size
 }
 
-// One more for the row of the byte touched last, unless the byte touched last before lay in it.
+// One more for the row of the byte touched last, unless the byte touched last before lay in it. By index: what a slice ends as,
+// `get_mut` does not say.
 #[tactic(auto, using(crate::proofs::CountLaws::adds_none, crate::proofs::CountLaws::adds_same, crate::proofs::CountLaws::adds_one))]
 fn add(counters: &mut [u32], size: usize, before: u32, after: u32)
     requires { 0 < size }
