@@ -1,5 +1,5 @@
 -- The story tells the replay's run: after each event and each item its scene is what stands on the replay's bench. Assumes nothing.
-use Rattle.std.specs.Prelude.{◌≡◌, refl, Bool, true, false, cond, List, [], ◌∷◌, ℕ, ◌-◌, eqb, ltb}
+use Rattle.std.specs.Prelude.{◌≡◌, refl, Bool, true, false, cond, List, [], ◌∷◌, ℕ, ◌-◌, ltb, is_none}
 use Rattle.std.proofs.Common.{sym, ap, ◌∙◌}
 use Rattle.trace.specs.Figures.{last_byte}
 use Rattle.trace.specs.Items.{short_events, run_events, item_events}
@@ -20,7 +20,7 @@ pub same_event : (b : Bench) (code : ℕ) → scene_in (after_event b code) ≡ 
 unfolding after_event event_scene
 same_event b code =
     let a : Answer = event replay_serial b.array b.stand.chip code in
-    either (eqb a.refusal 0)
+    either (is_none a.refusal)
     (taken b a.state (after b.stand code a) (written a.note b.array) (shown_by b.shown b.stand code)) (stopped b a.refusal)
 
 pub same_events : (b : Bench) (es : List ℕ) → scene_in (after_events b es) ≡ events_scene (scene_in b) es
@@ -31,7 +31,7 @@ same_events b (e ∷ es) =
     (either (runs_on b) (after_event b e) b ∙ ap (λ (s : Scene). cond (runs_on b) s (scene_in b)) (same_event b e))
 
 -- the bytes of SO that a bench keeps, and its text, are nothing to a run
-same_run : (b : Bench) (n : ℕ) → scene_in (after_events b (run_events n)) ≡ run_scene (scene_in b) n
+pub same_run : (b : Bench) (n : ℕ) → scene_in (after_events b (run_events n)) ≡ run_scene (scene_in b) n
 unfolding pulsed run_scene
 same_run b n = same_events b (run_events n) ∙ sym (same_events (bench_in (scene_in b)) (run_events n))
 

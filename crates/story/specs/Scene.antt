@@ -1,5 +1,6 @@
 -- What is told of an event and of an item, by what stands on the bench and what the event call answers. Assumes nothing.
-use Rattle.std.specs.Prelude.{ℕ, ◌-◌, Bool, cond, List, [], ◌∷◌, ◌++◌, eqb, ltb, replicate}
+use Rattle.std.specs.Prelude.{ℕ, ◌-◌, Bool, cond, List, [], ◌∷◌, ◌++◌, ltb, replicate, Option, Some, None, is_none}
+use Rattle.refusals.specs.declared.refusal.Refusal.{Refusal}
 use Rattle.trace.specs.Figures.{last_byte}
 use Rattle.trace.specs.Items.{short_events}
 use Rattle.select.specs.declared.notes.Note.{Note}
@@ -10,22 +11,23 @@ use Rattle.report.specs.Record.{most_shown}
 use Rattle.turns.specs.Bench.{Bench, replay_serial}
 use Rattle.turns.specs.Stand.{after}
 use Rattle.turns.specs.declared.stand.Stand.{Stand}
-use Rattle.turns.specs.declared.turn.Turn.{Turn}
+use Rattle.turns.specs.declared.turn.Bench.{Bench as Lent}
 use Rattle.pulses.specs.Pulse.{pulsed}
 use Rattle.words.specs.Changes.{changes, turned, sampled_by}
 use Rattle.words.specs.Lines.{note_text, shown_text, refused_line, run_line}
 
--- the refusal that stopped the run, or 0; what stands on the bench; the array
+-- the refusal that stopped the run, if any; what stands on the bench; the array
 pub record Scene : Type 0 where
-  pub refusal : ℕ
+  pub refusal : Option Refusal
   pub stand : Stand
   pub array : List ℕ
 
-abbrev pub scene_of : Turn → List ℕ → Scene
-scene_of t array = record { refusal = t.refusal; stand = t.stand; array = array }
+-- the scene on the bench of a program
+abbrev pub scene_of : Lent → Scene
+scene_of b = record { refusal = b.refusal; stand = b.stand; array = b.array.now }
 
 abbrev pub runs_on : Scene → Bool
-runs_on b = eqb b.refusal 0
+runs_on b = is_none b.refusal
 
 -- ---- an event, by its answer
 
@@ -34,18 +36,21 @@ unfoldable pub accepted_text : ℕ → Stand → ℕ → Stand → Note → List
 accepted_text place before code after note =
     changes place before after ++ shown_text place (sampled_by before code) ++ note_text place note
 
+-- what is told of a refusal, or the text where there is none
+abbrev pub refused_or : Option Refusal → (Refusal → List ℕ) → List ℕ → List ℕ
+refused_or None told text = text
+refused_or (Some refusal) told text = told refusal
+
 -- as on the replay's bench: "Lent memory stays at every refusal."
 abbrev pub answered_scene : Scene → ℕ → Answer → Scene
 answered_scene b code a =
-    cond (eqb a.refusal 0)
-    (record { refusal = 0; stand = after b.stand code a; array = written a.note b.array })
+    cond (is_none a.refusal)
+    (record { refusal = None; stand = after b.stand code a; array = written a.note b.array })
     (record { refusal = a.refusal; stand = b.stand; array = b.array })
 
 abbrev pub answered_text : Scene → ℕ → ℕ → Answer → List ℕ
 answered_text b place code a =
-    cond (eqb a.refusal 0)
-    (accepted_text place b.stand code (after b.stand code a) a.note)
-    (refused_line place a.refusal)
+    refused_or a.refusal (refused_line place) (accepted_text place b.stand code (after b.stand code a) a.note)
 
 unfoldable pub event_scene : Scene → ℕ → Scene
 event_scene b code = answered_scene b code (event replay_serial b.array b.stand.chip code)

@@ -1,5 +1,7 @@
 -- The story of a trace, whole. Assumes nothing.
-use Rattle.std.specs.Prelude.{ℕ, zero, suc, ◌-◌, cond, List, [], ◌++◌, eqb, length, replicate}
+use Rattle.std.specs.Prelude.{ℕ, zero, suc, ◌-◌, cond, List, [], ◌++◌, eqb, length, replicate, None, Result, Ok, Err}
+use Rattle.refusals.specs.RefusalLaws.{refusal_at}
+use Rattle.refusals.specs.declared.refusal.Refusal.{Refusal}
 use Rattle.trace.specs.Answers.{Told, Value, num, end}
 use Rattle.trace.specs.Number.{reading}
 use Rattle.parts.specs.Figures.{figure_of}
@@ -14,7 +16,7 @@ use Rattle.bench.specs.Head.{head_of}
 use Rattle.bench.specs.declared.head.Head.{Head}
 use Rattle.words.specs.Dump.{array_text}
 use Rattle.words.specs.Lines.{power_line, refused_line, left_line, end_line}
-use Rattle.story.specs.Scene.{Scene, runs_on, item_scene, item_text}
+use Rattle.story.specs.Scene.{Scene, runs_on, refused_or, item_scene, item_text}
 
 -- a select that is open at the end
 abbrev pub left_open : Stand → List ℕ
@@ -36,7 +38,7 @@ value_text end at next b more = end_text b.stand b.array
 -- a number that cannot be read is told with its place, and ends it
 abbrev pub read_text : Told → ℕ → Scene → (ℕ → Scene → List ℕ) → List ℕ
 read_text t at b more =
-    cond (eqb t.refusal 0) (value_text t.value at t.place b more) (refused_line at t.refusal ++ end_text b.stand b.array)
+    cond (eqb t.refusal 0) (value_text t.value at t.place b more) (refused_line at (refusal_at t.refusal) ++ end_text b.stand b.array)
 
 -- no more reads than `left`
 abbrev pub story_in : ℕ → List ℕ → ℕ → Scene → List ℕ
@@ -52,17 +54,17 @@ unfoldable pub left_text : List ℕ → ℕ → Scene → List ℕ
 left_text s at b = goes_on (story_from s) at b
 
 -- a trace that does not come to power-up
-unfoldable pub not_powered : ℕ → List ℕ
-not_powered row = refused_line 0 row ++ ascii "end: no power-up\n"
+unfoldable pub not_powered : Refusal → List ℕ
+not_powered refusal = refused_line 0 refusal ++ ascii "end: no power-up\n"
 
 -- from an accepted power-up on
 unfoldable pub from_power : List ℕ → Head → State → List ℕ → List ℕ
 from_power s lead chip array =
     power_line lead.part (figure_of lead.part).size chip.kept
-    ++ left_text s lead.items (record { refusal = 0; stand = no_event chip; array = array })
+    ++ left_text s lead.items (record { refusal = None; stand = no_event chip; array = array })
 
 abbrev pub up_text : List ℕ → Head → List ℕ → Powered → List ℕ
-up_text s lead array p = cond (eqb p.refusal 0) (from_power s lead p.state array) (not_powered p.refusal)
+up_text s lead array p = refused_or p.refusal not_powered (from_power s lead p.state array)
 
 -- "It starts from a fresh array", as the replay does
 unfoldable pub powered_text : List ℕ → Head → List ℕ → List ℕ
@@ -70,9 +72,9 @@ powered_text s lead array =
     let xs = filled lead.part fresh array in
     up_text s lead xs (power_up lead.part lead.kept xs)
 
-abbrev pub led_text : List ℕ → Head → List ℕ
-led_text s lead =
-    cond (eqb lead.refusal 0) (powered_text s lead (replicate (figure_of lead.part).size 0)) (not_powered lead.refusal)
+abbrev pub led_text : List ℕ → Result Head Refusal → List ℕ
+led_text s (Ok lead) = powered_text s lead (replicate (figure_of lead.part).size 0)
+led_text s (Err refusal) = not_powered refusal
 
 -- "It reads both leading numbers before power-up", as the replay does
 unfoldable pub story : List ℕ → List ℕ

@@ -4,9 +4,6 @@
 
 use story::watch::watch;
 
-// Standard output.
-const STDOUT_FILENO: i32 = 1;
-
 fn main() {
     writes();
     refusals();
@@ -16,7 +13,7 @@ fn main() {
 
 // A title, and the story of a trace below it.
 fn case(title: &[u8], trace: &[u8]) {
-    io::write_all(STDOUT_FILENO, title);
+    console::write(title);
     watch(trace);
 }
 

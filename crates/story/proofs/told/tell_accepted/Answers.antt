@@ -1,17 +1,12 @@
 -- Each piece is printed behind the one before.
+use Rattle.turns.proofs.Pages.{◌then◌}
 use Rattle.story.specs.Scene.{accepted_text}
-use Rattle.words.proofs.Pages.{◌then◌}
-use borrow.Author.Rules.{rules}
 use Rattle.story.proofs.told.tell_accepted.Goals as goal
 
 pub returns : goal.returns
 unfolding accepted_text
 returns c =
-    let print-note = c in
-    let print-shown = print-note in
-    let tell-changes = print-shown in
-    let sampled-by = tell-changes in
-    rw (← sampled-by.sampled_by-shown.ensures)
-    (tell-changes.tell_changes-next.ensures
-    then print-shown.print_shown-next.ensures
-    then print-note.print_note.ensures)
+    rw (← c.sampled_by-shown.ensures)
+    (c.tell_changes.ensures
+    then c.print_shown.ensures
+    then c.print_note.ensures)

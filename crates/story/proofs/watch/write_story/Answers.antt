@@ -1,9 +1,10 @@
 -- What is put is no longer than the slice.
+use Rattle.std.proofs.Common.{arith}
 use Rattle.turns.specs.PrintLaws.{print_fits}
 use Rattle.story.proofs.watch.write_story.Goals as goal
 
-pub slice_bounds-write_all-end : goal.slice_bounds-write_all-end
-slice_bounds-write_all-end c = (print_fits _ _ _ c.story-n.ensures.page).0
+pub shared_ref_as_front-write : goal.shared_ref_as_front-write
+shared_ref_as_front-write c = omega (arith, (print_fits _ _ _ c.story-n.ensures).0)
 
-pub slice_bounds-write_all-end-2 : goal.slice_bounds-write_all-end-2
-slice_bounds-write_all-end-2 c = (print_fits _ _ _ c.story-n.ensures.page).1
+pub slice_bounds-write-end : goal.slice_bounds-write-end
+slice_bounds-write-end c = (print_fits _ _ _ c.story-n.ensures).1
