@@ -27,7 +27,8 @@ const PINS: u8 = 6;
 // The most pulses that one item can be.
 const MOST_PULSES: u64 = LARGEST - LAST_BYTE;
 
-// What may stand next: a word of the first line, a line's end, any word of a later line, or what such a word asks for.
+// What may stand next: a word of the first line, a line's end, any word of a later line, or what such a word asks for. A
+// pin goes by document 01's number: an enum of the six would ask more of whoever calls `hear`.
 #[derive(Clone, Copy, Debug, PartialEq, Eq)]
 pub enum Next {
     Part,

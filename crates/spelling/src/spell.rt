@@ -19,7 +19,7 @@ pub struct Place {
 }
 
 // Why a text spells no trace: a place, and what was expected there; or the place of what has no room in the trace; or a
-// text that is too long.
+// text that is too long. It is no `Stop` of another place, since no reading stops with a text that is too long.
 #[derive(Clone, Copy, Debug, PartialEq, Eq)]
 pub enum Fault {
     Wrong { place: Place, expected: Next },
@@ -111,18 +111,6 @@ fn spell_in(text: &[u8], trace: &mut [u8], out: &mut [u8]) -> Result<usize, Faul
     }
 }
 
-// The same, by way of arrays.
-fn spell_by(
-    text: &[u8],
-    trace: &mut [u8; MOST_BYTES],
-    out: &mut [u8; MOST_BYTES],
-) -> Result<usize, Fault>
-    requires { length text.now ≤ longest }
-    ensures { Spells text.now out.old out.new result }
-{
-    spell_in(text, trace, out)
-}
-
 // Puts the trace that a text spells at the front of `out`, whose rest stays, and answers its length. Where the text spells
 // none, it says why, and all of `out` stays.
 pub fn spell(text: &[u8], out: &mut [u8; MOST_BYTES]) -> Result<usize, Fault>
@@ -132,5 +120,5 @@ pub fn spell(text: &[u8], out: &mut [u8; MOST_BYTES]) -> Result<usize, Fault>
         return Err(Fault::Long);
     }
     let mut trace = [0u8; MOST_BYTES];
-    spell_by(text, &mut trace, out)
+    spell_in(text, &mut trace, out)
 }
