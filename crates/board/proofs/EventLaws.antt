@@ -1,10 +1,12 @@
 -- An event on the board by its refusal: refused it leaves all, else it leaves the chips moved. Assumes nothing.
-use Rattle.std.specs.Prelude.{ℕ, zero, suc, ◌<◌, ◌≤◌, ◌≡◌, refl, Bool, true, false, cond, List, [], ◌∷◌, ◌++◌, length, take, drop, Option, Some, None, is_none}
-use Rattle.std.proofs.Common.{sym, subst, ◌∙◌, length-take-le, take_at}
+use Rattle.std.specs.Prelude.{ℕ, zero, suc, ◌<◌, ◌≤◌, ◌≡◌, refl, Bool, true, false, cond, List, [], ◌∷◌, ◌++◌, length, take, drop, Option, Some, None, is_none, Result, Ok, Err}
+use Rattle.std.proofs.Common.{arith, sym, subst, ◌∙◌, length-append, length-take-le, take_at}
 use Rattle.std.proofs.Math.Path.{ap}
+use Rattle.std.proofs.lemmas.Option.{none-some}
 use Rattle.pins.specs.declared.state.State.{State}
 use Rattle.refusals.specs.declared.refusal.Refusal.{Refusal}
-use Rattle.supply.specs.CheckedLaws.{some_given}
+use Rattle.supply.specs.Power.{checked}
+use Rattle.supply.specs.CheckedLaws.{some_given, checked_none, checked_some}
 use Rattle.chip.specs.Event as chip
 use Rattle.chip.proofs.RefusalLaws.{refusal_told, refusal_stays}
 use Rattle.chip.specs.Run.{Chip, next}
@@ -144,15 +146,19 @@ module _ (ns xs : List ℕ) (b : Board) (k code : ℕ) where
       out : event ns xs b k code ≡ left b cs
       out = event_left e ∙ ap (left b) (sym m)
 
--- the ways out of the call: the checks gave r
-module _ (ns xs : List ℕ) (b : Board) (k code : ℕ) (r : Option Refusal) (told : r ≡ checks b (length xs) (length ns) k code) where
-  pub way_refused : (r ≡ None → ⊥) → BoardPromise ns xs b k code (record { refusal = r; so = Released; board = b }) xs
-  way_refused n =
-      promise_refused ns xs b k code r xs (told ∙ sym (by_checks ns xs b k code (sym (ap is_none told) ∙ some_given r n))) n refl
+-- the ways out of the call: the checks answered r
+module _ (ns xs : List ℕ) (b : Board) (k code : ℕ) (r : Result (Unit {0}) Refusal)
+    (told : r ≡ checked (checks b (length xs) (length ns) k code)) where
+  pub way_refused : (why : Refusal) → r ≡ Err why → BoardPromise ns xs b k code (record { refusal = Some why; so = Released; board = b }) xs
+  way_refused why e =
+      promise_refused ns xs b k code (Some why) xs (sym (by_checks ns xs b k code (ap is_none given) ∙ given)) (λ n. none-some why (sym n)) refl
+    where
+      given : checks b (length xs) (length ns) k code ≡ Some why
+      given = checked_some _ why (sym told ∙ e)
 
-  module _ (fine : r ≡ None) where
+  module _ (fine : r ≡ Ok tt) where
     none : checks b (length xs) (length ns) k code ≡ None
-    none = sym told ∙ fine
+    none = checked_none _ (sym told ∙ fine)
 
     passed : Passed b (length xs) (length ns) k code
     passed = checks_passed b (length xs) (length ns) k code none
@@ -162,6 +168,17 @@ module _ (ns xs : List ℕ) (b : Board) (k code : ℕ) (r : Option Refusal) (tol
 
     pub few_after : (after : Board) (cs : List Chip) → after ≡ with_chips b cs → after.count ≤ 8
     few_after after cs e = subst (λ (c : Board). c.count ≤ 8) (sym e) few_chips
+
+    -- there is a place for each chip, and still is with others in the chips' places
+    module _ (eight : length b.chips ≡ 8) where
+      pub chips_there : b.count ≤ length b.chips
+      chips_there = subst (λ (n : ℕ). b.count ≤ n) (sym eight) few_chips
+
+      pub chips_fitted : length (fitted b) ≡ b.count
+      chips_fitted = length-take-le b.count b.chips chips_there
+
+      pub still_there : (ss : List State) → length ss ≡ length (fitted b) → b.count ≤ length (ss ++ drop b.count b.chips)
+      still_there ss same = omega (arith, same, chips_fitted, length-append ss (drop b.count b.chips))
 
     pub whole_slice : together (fitted b) ≡ length xs
     whole_slice = passed.long
