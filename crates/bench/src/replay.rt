@@ -1,13 +1,8 @@
 // The replay: a trace is read, and its report, which `text` makes, is written.
 use crate::text::report;
+use console::{read, write};
 use report::lines::LINE;
 use trace::reader::MOST_BYTES;
-
-// Standard input.
-const STDIN_FILENO: i32 = 0;
-
-// Standard output.
-const STDOUT_FILENO: i32 = 1;
 
 // Room for the report of 32,768 bytes: a select takes two of them at least, 0 and 1, and a line is 256 bytes at most,
 // so 16,385 lines of selects, line 1 and the last line. This is argued here and not proved.
@@ -16,10 +11,11 @@ const ROOM: usize = (MOST_BYTES / 2 + 3) * LINE;
 // The report of a trace, by way of a slice.
 fn write_report(trace: &[u8], out: &mut [u8]) {
     let n = report(trace, out);
-    io::write_all(STDOUT_FILENO, &out[..n]);
+    write(&out[..n]);
 }
 
-// The same, by way of an array.
+// The same, by way of an array: the slice of an array that is made in the same function, of so many bytes, is too much for
+// the check.
 fn write_by(trace: &[u8], room: &mut [u8; ROOM]) {
     write_report(trace, room);
 }
@@ -33,6 +29,6 @@ pub fn replay(trace: &[u8]) {
 // "It reads a trace from standard input, up to 32,768 bytes, as if the input ended there."
 pub fn replay_input() {
     let mut input = [0u8; MOST_BYTES];
-    let n = io::read_full(STDIN_FILENO, &mut input);
+    let n = read(&mut input);
     replay(&input[..n]);
 }

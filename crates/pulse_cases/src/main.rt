@@ -10,13 +10,10 @@
 
 use bench::replay::replay;
 use bench::text::report;
-use trace::answer::Written;
+use console::write;
 use trace::items::LAST_BYTE;
 use trace::number::write_at;
 use trace::reader::MOST_BYTES;
-
-// Standard output.
-const STDOUT_FILENO: i32 = 1;
 
 // Room for the report of a case.
 const REPORT: usize = 4096;
@@ -38,9 +35,9 @@ fn main() {
 // Bytes into a trace from a place on. What there is no room for is left out.
 fn put(trace: &mut [u8; MOST_BYTES], at: usize, bytes: &[u8]) -> usize {
     let mut next = at;
-    for i in 0..bytes.len() {
+    for &byte in bytes {
         if next < MOST_BYTES {
-            trace[next] = bytes[i];
+            trace[next] = byte;
             next += 1;
         }
     }
@@ -50,11 +47,8 @@ fn put(trace: &mut [u8; MOST_BYTES], at: usize, bytes: &[u8]) -> usize {
 // So many pulses as one item.
 fn put_run(trace: &mut [u8; MOST_BYTES], at: usize, pulses: u32) -> usize {
     match write_at(trace, at, pulses as u64 + LAST_BYTE) {
-        Written::Placed { next } => next,
-        Written::Refused {
-            refusal: _,
-            at: place,
-        } => place,
+        Ok(next) => next,
+        Err(refused) => refused.at,
     }
 }
 
@@ -78,38 +72,13 @@ fn put_longest(trace: &mut [u8; MOST_BYTES], at: usize) -> usize {
     next
 }
 
-// The report of the first bytes of a trace, by way of slices.
-fn report_front(trace: &[u8], len: usize, out: &mut [u8]) -> usize {
-    if len <= trace.len() {
-        return report(&trace[..len], out);
-    }
-    0
-}
-
-// The same, by way of arrays.
+// The report of the first bytes of a trace.
 fn report_of(trace: &[u8; MOST_BYTES], len: usize, out: &mut [u8; REPORT]) -> usize {
-    report_front(trace, len, out)
-}
-
-// The report is printed.
-fn replay_front(trace: &[u8], len: usize) {
-    if len <= trace.len() {
-        replay(&trace[..len]);
+    if len <= MOST_BYTES {
+        report(&trace[..len], out)
+    } else {
+        0
     }
-}
-
-fn replay_of(trace: &[u8; MOST_BYTES], len: usize) {
-    replay_front(trace, len);
-}
-
-fn same(a: &[u8; REPORT], m: usize, b: &[u8; REPORT], n: usize) -> bool {
-    let mut equal = m == n;
-    for i in 0..REPORT {
-        if a[i] != b[i] {
-            equal = false;
-        }
-    }
-    equal
 }
 
 // Whether a run of so many pulses gives one report in both ways.
@@ -126,7 +95,7 @@ fn agrees(before: &[u8], pulses: u32, after: &[u8], reads: &[u8]) -> bool {
     let rest = put(&mut trace, run, after);
     let end = put(&mut trace, rest, reads);
     let n = report_of(&trace, end, &mut by_edges);
-    same(&by_sums, m, &by_edges, n)
+    m == n && by_sums == by_edges
 }
 
 // Length number `k`.
@@ -138,30 +107,24 @@ fn length(k: u32) -> u32 {
 }
 
 fn title(text: &[u8]) {
-    io::write_all(STDOUT_FILENO, b"== ");
-    io::write_all(STDOUT_FILENO, text);
-    io::write_all(STDOUT_FILENO, b"\n");
+    write(b"== ");
+    write(text);
+    write(b"\n");
 }
 
 // Whether runs of every length do.
 fn all_agree(before: &[u8], after: &[u8], reads: &[u8]) -> bool {
-    let mut all = true;
-    for k in 0..LENGTHS {
-        if !agrees(before, length(k), after, reads) {
-            all = false;
-        }
-    }
-    all
+    (0..LENGTHS).all(|k| agrees(before, length(k), after, reads))
 }
 
 // What is said of one case.
 fn case(name: &[u8], before: &[u8], after: &[u8], reads: &[u8]) {
     title(name);
-    if all_agree(before, after, reads) {
-        io::write_all(STDOUT_FILENO, b"the same\n");
+    write(if all_agree(before, after, reads) {
+        b"the same\n"
     } else {
-        io::write_all(STDOUT_FILENO, b"not the same\n");
-    }
+        b"not the same\n"
+    });
 }
 
 // A case on part 1 or 2, and one on parts 3 to 5, whose address has two bytes. Both end with a byte 5Ah, the close of the select,
@@ -182,7 +145,9 @@ fn longest(name: &[u8], before: &[u8]) {
     title(name);
     let start = put(&mut trace, 0, before);
     let len = put_longest(&mut trace, start);
-    replay_of(&trace, len);
+    if len <= MOST_BYTES {
+        replay(&trace[..len]);
+    }
 }
 
 // No select sees the run.

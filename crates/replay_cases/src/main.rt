@@ -7,12 +7,7 @@
 #![tactic(auto)]
 
 use bench::replay::replay;
-
-// Standard input.
-const STDIN_FILENO: i32 = 0;
-
-// Standard output.
-const STDOUT_FILENO: i32 = 1;
+use console::{read, say, write};
 
 // The longest input, and the longest trace of a case.
 const INPUT: usize = 32768;
@@ -38,10 +33,17 @@ struct Case {
     len: usize,
 }
 
+impl Case {
+    // The same with the next byte somewhere else.
+    fn at(self, place: Place) -> Case {
+        Case { place, ..self }
+    }
+}
+
 fn main() {
     let mut text = [0u8; INPUT];
     let mut trace = [0u8; LONGEST];
-    let n = io::read_full(STDIN_FILENO, &mut text);
+    let n = read(&mut text);
     cases(&text[..n], &mut trace);
 }
 
@@ -52,10 +54,8 @@ fn cases(text: &[u8], trace: &mut [u8]) {
         line: 1,
         len: 0,
     };
-    let mut i = 0;
-    while i < text.len() {
-        case = take(case, trace, text[i]);
-        i += 1;
+    for &b in text {
+        case = take(case, trace, b);
     }
     run(case.len, trace);
 }
@@ -65,12 +65,11 @@ fn take(case: Case, trace: &mut [u8], b: u8) -> Case {
     if b == b'\n' {
         return end_line(case, trace);
     }
-    let place = case.place;
-    match place {
+    match case.place {
         Place::Start => first(case, b),
         Place::Comment => case,
         Place::Title => {
-            io::write_all(STDOUT_FILENO, &[b]);
+            write(&[b]);
             case
         }
         Place::High => high(case, b),
@@ -80,23 +79,19 @@ fn take(case: Case, trace: &mut [u8], b: u8) -> Case {
 
 // A line's end. That of an empty line ends the case.
 fn end_line(case: Case, trace: &[u8]) -> Case {
-    let place = case.place;
     let line = if case.line < 0xFFFF_FFFF {
         case.line + 1
     } else {
         case.line
     };
     let mut len = case.len;
-    match place {
+    match case.place {
         Place::Start => {
             run(len, trace);
             len = 0;
         }
-        Place::Comment => {}
-        Place::Title => {
-            io::write_all(STDOUT_FILENO, b"\n");
-        }
-        Place::High => {}
+        Place::Title => write(b"\n"),
+        Place::Comment | Place::High => {}
         Place::Low(_) => fault(case.line, b": half a byte\n"),
     }
     Case {
@@ -113,24 +108,17 @@ fn run(len: usize, trace: &[u8]) {
 }
 
 fn fault(line: u64, text: &[u8]) {
-    io::write_all(STDOUT_FILENO, b"? line ");
-    io::print_decimal(STDOUT_FILENO, line);
-    io::write_all(STDOUT_FILENO, text);
+    say(b"? line ", line);
+    write(text);
 }
 
 // A line's first byte.
 fn first(case: Case, b: u8) -> Case {
     match b {
-        b'#' => Case {
-            place: Place::Comment,
-            ..case
-        },
+        b'#' => case.at(Place::Comment),
         b'=' => {
-            io::write_all(STDOUT_FILENO, b"==");
-            Case {
-                place: Place::Title,
-                ..case
-            }
+            write(b"==");
+            case.at(Place::Title)
         }
         _ => high(case, b),
     }
@@ -138,59 +126,42 @@ fn first(case: Case, b: u8) -> Case {
 
 // A byte's first digit, or a space before it.
 fn high(case: Case, b: u8) -> Case {
-    let high = digit(b);
-    if high < 16 {
-        return Case {
-            place: Place::Low(high),
-            ..case
-        };
-    }
     if b == b' ' {
-        return Case {
-            place: Place::High,
-            ..case
-        };
+        return case.at(Place::High);
     }
-    fault(case.line, b": no hex digit\n");
-    Case {
-        place: Place::Comment,
-        ..case
+    match digit(b) {
+        Some(high) => case.at(Place::Low(high)),
+        None => {
+            fault(case.line, b": no hex digit\n");
+            case.at(Place::Comment)
+        }
     }
 }
 
 // A byte's second digit, which puts the byte into the trace.
 fn low(case: Case, trace: &mut [u8], high: u8, b: u8) -> Case {
-    let low = digit(b);
-    let line = case.line;
-    let len = case.len;
-    if 16 <= low {
-        fault(line, b": no hex digit\n");
-        return Case {
-            place: Place::Comment,
-            ..case
-        };
+    let Some(low) = digit(b) else {
+        fault(case.line, b": no hex digit\n");
+        return case.at(Place::Comment);
+    };
+    if trace.len() <= case.len {
+        fault(case.line, b": trace too long\n");
+        return case.at(Place::Comment);
     }
-    if trace.len() <= len {
-        fault(line, b": trace too long\n");
-        return Case {
-            place: Place::Comment,
-            ..case
-        };
-    }
-    trace[len] = (high << 4) | low;
+    trace[case.len] = (high << 4) | low;
     Case {
         place: Place::High,
-        line,
-        len: len + 1,
+        line: case.line,
+        len: case.len + 1,
     }
 }
 
-// The value of a hex digit, and 16 of any other byte.
-fn digit(b: u8) -> u8 {
+// The value of a hex digit.
+fn digit(b: u8) -> Option<u8> {
     match b {
-        b'0'..=b'9' => b - b'0',
-        b'A'..=b'F' => b - b'A' + 10,
-        b'a'..=b'f' => b - b'a' + 10,
-        _ => 16,
+        b'0'..=b'9' => Some(b - b'0'),
+        b'A'..=b'F' => Some(b - b'A' + 10),
+        b'a'..=b'f' => Some(b - b'a' + 10),
+        _ => None,
     }
 }

@@ -2,8 +2,8 @@
 use Rattle.turns.specs.PrintLaws.{print_fits}
 use Rattle.bench.proofs.replay.write_report.Goals as goal
 
-pub slice_bounds-write_all-end : goal.slice_bounds-write_all-end
-slice_bounds-write_all-end c = (print_fits _ _ _ c.report-n.ensures).0
+pub slice_bounds-write-end : goal.slice_bounds-write-end
+slice_bounds-write-end c = (print_fits _ _ _ c.report-n.ensures).0
 
-pub slice_bounds-write_all-end-2 : goal.slice_bounds-write_all-end-2
-slice_bounds-write_all-end-2 c = (print_fits _ _ _ c.report-n.ensures).1
+pub slice_bounds-write-end-2 : goal.slice_bounds-write-end-2
+slice_bounds-write-end-2 c = (print_fits _ _ _ c.report-n.ensures).1
