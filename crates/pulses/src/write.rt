@@ -40,12 +40,6 @@ fn store_limit(chip: State) -> usize
     first_protected(f, chip.kept)
 }
 
-fn least(a: u64, b: u64) -> u64
-    ensures { result ≡ least a b }
-{
-    if a < b { a } else { b }
-}
-
 // How many bytes are stored from place 0 up to a place, which is counted on past the array's size.
 #[tactic(auto, unfolding(crate::specs::Sums::before))]
 fn stored_before(size: u64, limit: u64, place: u64) -> u64
@@ -53,7 +47,7 @@ fn stored_before(size: u64, limit: u64, place: u64) -> u64
     requires limit_le_size { limit ≤ size }
     ensures { result ≡ before size limit place }
 {
-    place / size * limit + least(place % size, limit)
+    place / size * limit + (place % size).min(limit)
 }
 
 // How many of so many bytes from an address on are stored.
@@ -97,7 +91,7 @@ fn next(at: usize, size: usize) -> usize
     requires { at < size }
     ensures { result ≡ (at + 1) % size }
 {
-    if size <= at + 1 { 0 } else { at + 1 }
+    (at + 1) % size
 }
 
 // Bytes of one value from an address on, round the array.
@@ -106,11 +100,9 @@ fn fill(array: &mut [u8], limit: usize, byte: u8, start: usize, bytes: u64)
     ensures { array.new ≡ fill_bytes (length array.old) limit byte bytes start array.old }
 {
     let mut at = start;
-    let mut left = bytes;
-    while 0 < left {
+    for _ in 0..bytes {
         put_byte(array, limit, byte, at);
         at = next(at, array.len());
-        left -= 1;
     }
 }
 
@@ -126,7 +118,7 @@ fn write_bytes(chip: State, array: &mut [u8], at: usize, bytes: u64)
         store_limit(chip),
         still_byte(si),
         at,
-        least(size, bytes),
+        size.min(bytes),
     );
 }
 
