@@ -24,9 +24,9 @@ use Rattle.refusals.specs.Refusals.{number_of}
 use Rattle.turns.specs.Bench.{Bench, Takes, after_events, desk_of, on_page, bench_of}
 use Rattle.turns.specs.DeskLaws.{desk_is, carry}
 use Rattle.turns.specs.EventLaws.{events_stay}
-use Rattle.turns.specs.Page.{Page, page_of, printed}
-use Rattle.turns.specs.PrintLaws.{print_then}
-use Rattle.turns.specs.Prints.{page_in}
+use Rattle.report.specs.Page.{Page, page_of, printed}
+use Rattle.report.specs.PrintLaws.{print_then}
+use Rattle.report.specs.Prints.{page_in}
 use Rattle.turns.specs.Stand.{no_event}
 use Rattle.turns.specs.declared.turn.Bench.{Bench as Lent}
 use Rattle.bench.specs.Head.{head_of}

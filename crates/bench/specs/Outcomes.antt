@@ -3,7 +3,7 @@
 use Rattle.std.specs.Prelude.{ℕ, ◌≡◌, List}
 use Rattle.std.proofs.Common.{ap}
 use Rattle.laws.specs.TestLaws.{sole}
-use Rattle.turns.specs.Page.{Page, page_of}
+use Rattle.report.specs.Page.{Page, page_of}
 use Rattle.bench.specs.Report.{reported}
 
 pub report_one : (s out : List ℕ) (a b : ℕ) (xs ys : List ℕ)

@@ -6,7 +6,7 @@ use Rattle.refusals.specs.declared.refusal.Refusal.{Refusal}
 use Rattle.report.specs.Lines.{end_line}
 use Rattle.report.specs.Record.{most_shown}
 use Rattle.turns.specs.Bench.{Bench, select_text}
-use Rattle.turns.specs.Page.{Page, page_of, printed}
+use Rattle.report.specs.Page.{Page, page_of, printed}
 use Rattle.bench.specs.Run.{replayed}
 use Rattle.turns.specs.declared.stand.Stand.{Stand}
 

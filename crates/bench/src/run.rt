@@ -2,7 +2,7 @@
 ghost use Rattle.std.specs.Prelude.{◌≡◌};
 ghost use Rattle.supply.specs.Power.{power_up, fresh, filled};
 ghost use Rattle.turns.specs.Bench.{Takes, after_events};
-ghost use Rattle.turns.specs.Prints.{Prints};
+ghost use Rattle.report.specs.Prints.{Prints};
 ghost use Rattle.trace.specs.Items.{short_events};
 ghost use Rattle.bench.specs.Run.{after_item, ran_from, first_text};
 
@@ -13,7 +13,7 @@ use supply::power::{Powered, fill, power_up};
 use trace::answer::Read;
 use trace::items::{event_of, events_of, pulses_of};
 use trace::reader::number_at;
-use turns::page::Page;
+use report::page::Page;
 use turns::turn::Bench;
 
 // An event or a data byte: its events, up to the first that is refused.

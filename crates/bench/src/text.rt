@@ -1,8 +1,8 @@
 // The report of a trace, as text in a lent slice.
 ghost use Rattle.std.specs.Prelude.{◌≡◌, replicate};
 ghost use Rattle.report.specs.Record.{most_shown};
-ghost use Rattle.turns.specs.Page.{page_of, printed};
-ghost use Rattle.turns.specs.Prints.{Prints};
+ghost use Rattle.report.specs.Page.{page_of, printed};
+ghost use Rattle.report.specs.Prints.{Prints};
 ghost use Rattle.bench.specs.Report.{open_text, last_text, whole_text, reported};
 ghost use Rattle.bench.specs.Run.{ran};
 
@@ -11,7 +11,7 @@ use crate::run::{start, take_items};
 use parts::figures::{LARGEST, figure_of};
 use pins::watch::is_open;
 use report::record::SHOWN;
-use turns::page::Page;
+use report::page::Page;
 use turns::stand::Stand;
 use turns::turn::Bench;
 

@@ -7,7 +7,7 @@ use Rattle.trace.specs.Items.{run_events}
 use Rattle.turns.specs.Bench.{Bench, after_event, after_events, desk_of, on_page, bench_of}
 use Rattle.turns.specs.DeskLaws.{tells_events, desk_is, carry}
 use Rattle.turns.specs.EventLaws.{events_on, events_end}
-use Rattle.turns.specs.Prints.{page_in}
+use Rattle.report.specs.Prints.{page_in}
 use Rattle.turns.specs.declared.stand.Stand.{Stand}
 use Rattle.turns.specs.declared.turn.Bench.{Bench as Lent}
 use Rattle.pulses.specs.Pulse.{pulsed, standing, Skips}

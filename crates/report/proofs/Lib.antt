@@ -1,2 +1,3 @@
-pub mod Pieces
+pub mod Hexes
 pub mod Decimals
+pub mod Pages

@@ -1,4 +1,9 @@
 pub mod Text
 pub mod Record
 pub mod RecordLaws
+pub mod Page
+pub mod PageLaws
+pub mod PrintLaws
+pub mod Prints
 pub mod Lines
+pub mod LineLaws

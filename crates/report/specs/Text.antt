@@ -1,15 +1,9 @@
--- Text in ASCII: a line that is built piece by piece, and numbers. Assumes nothing.
-use Rattle.std.specs.Prelude.{◌≡◌, ℕ, zero, suc, ◌+◌, ◌/◌, ◌%◌, cond, List, [], ◌∷◌, ◌++◌, ltb, length, get_or}
+-- Text in ASCII, and numbers. Assumes nothing.
+use Rattle.std.specs.Prelude.{ℕ, zero, suc, ◌+◌, ◌/◌, ◌%◌, cond, List, [], ◌∷◌, ◌++◌, ltb, get_or}
 use Prim.Native.Char.{code}
 use Prim.Native.String.{String, [] as none, ◌∷◌ as ◌then◌}
-use Rattle.std.proofs.lemmas.List.Edits.{sets}
 
--- a text put into a buffer from a place on: each byte of the buffer after it, and the place behind the text
-pub record Puts (before : List ℕ) (at : ℕ) (text after : List ℕ) (next : ℕ) : Type 0 where
-  pub bytes : after ≡ sets before at text
-  pub ends : next ≡ at + length text
-
--- the bytes that a line's buffer has; every line fits
+-- the most bytes of a line
 abbrev pub line_room : ℕ
 line_room = 256
 

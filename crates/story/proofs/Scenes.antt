@@ -10,13 +10,13 @@ use Rattle.chip.specs.Promises.{EventPromise}
 use Rattle.chip.proofs.RefusalLaws.{refusal_stays}
 use Rattle.chip.specs.declared.event.Answer.{Answer}
 use Rattle.turns.specs.Bench.{replay_serial, bench_of, Takes}
-use Rattle.turns.specs.Page.{printed}
-use Rattle.turns.specs.Prints.{Prints, page_in}
+use Rattle.report.specs.Page.{printed}
+use Rattle.report.specs.Prints.{Prints, page_in}
 use Rattle.turns.specs.Stand.{after}
-use Rattle.turns.specs.declared.page.Page.{Page as Sheet}
+use Rattle.report.specs.declared.page.Page.{Page as Sheet}
 use Rattle.turns.specs.declared.stand.Stand.{Stand}
 use Rattle.turns.specs.declared.turn.Bench.{Bench as Lent}
-use Rattle.turns.proofs.Pages.{left_on, left_over}
+use Rattle.report.proofs.Pages.{left_on, left_over}
 use Rattle.pulses.specs.Pulse.{pulsed}
 use Rattle.words.specs.Lines.{refused_line}
 use Rattle.story.specs.Scene.{Scene, scene_of, accepted_text, event_scene, event_text, events_scene, events_text, run_scene, pulses_text, run_text, item_scene, item_text}

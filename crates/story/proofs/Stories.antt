@@ -20,13 +20,13 @@ use Rattle.parts.specs.declared.figures.Figure.{Figure}
 use Rattle.pins.specs.declared.state.State.{State}
 use Rattle.supply.specs.Power.{power_up, fresh, filled}
 use Rattle.supply.specs.declared.power.Powered.{Powered}
-use Rattle.turns.specs.Page.{Page, printed}
-use Rattle.turns.specs.Prints.{Prints, page_in}
+use Rattle.report.specs.Page.{Page, printed}
+use Rattle.report.specs.Prints.{Prints, page_in}
 use Rattle.turns.specs.Stand.{no_event}
-use Rattle.turns.specs.declared.page.Page.{Page as Sheet}
+use Rattle.report.specs.declared.page.Page.{Page as Sheet}
 use Rattle.turns.specs.declared.stand.Stand.{Stand}
 use Rattle.turns.specs.declared.turn.Bench.{Bench as Lent}
-use Rattle.turns.proofs.Pages.{left_on, ◌then◌}
+use Rattle.report.proofs.Pages.{left_on, ◌then◌}
 use Rattle.bench.specs.Head.{head_of}
 use Rattle.bench.specs.declared.head.Head.{Head}
 use Rattle.words.specs.Lines.{power_line, refused_line}

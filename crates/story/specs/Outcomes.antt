@@ -3,7 +3,7 @@
 use Rattle.std.specs.Prelude.{ℕ, ◌≡◌, List}
 use Rattle.std.proofs.Common.{ap}
 use Rattle.laws.specs.TestLaws.{sole}
-use Rattle.turns.specs.Page.{Page, page_of, printed}
+use Rattle.report.specs.Page.{Page, page_of, printed}
 use Rattle.story.specs.Story.{story}
 
 pub story_one : (s out : List ℕ) (a b : ℕ) (xs ys : List ℕ)

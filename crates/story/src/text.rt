@@ -1,7 +1,7 @@
 // The story of a trace, as text in a lent slice.
 ghost use Rattle.std.specs.Prelude.{◌≡◌};
-ghost use Rattle.turns.specs.Page.{page_of, printed};
-ghost use Rattle.turns.specs.Prints.{Prints};
+ghost use Rattle.report.specs.Page.{page_of, printed};
+ghost use Rattle.report.specs.Prints.{Prints};
 ghost use Rattle.story.specs.Story.{story, not_powered, from_power, powered_text};
 
 use crate::told::{tell_end, tell_items};
@@ -11,7 +11,7 @@ use pins::state::State;
 use refusals::refusal::Refusal;
 use report::record::SHOWN;
 use supply::power::{fill, power_up};
-use turns::page::Page;
+use report::page::Page;
 use turns::stand::Stand;
 use turns::turn::Bench;
 use words::lines::{print_power, print_refused};

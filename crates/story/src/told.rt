@@ -1,8 +1,8 @@
 // What is told of an event, of an item and of all items, while the bench takes them.
 ghost use Rattle.std.specs.Prelude.{◌≡◌};
 ghost use Rattle.trace.specs.Items.{short_events};
-ghost use Rattle.turns.specs.Page.{printed};
-ghost use Rattle.turns.specs.Prints.{Prints, page_in};
+ghost use Rattle.report.specs.Page.{printed};
+ghost use Rattle.report.specs.Prints.{Prints, page_in};
 ghost use Rattle.story.specs.Scene.{scene_of, accepted_text, event_scene, event_text, events_scene, events_text, run_scene, pulses_text, run_text, item_scene, item_text};
 ghost use Rattle.story.specs.Story.{left_open, end_text, left_text};
 
@@ -13,7 +13,7 @@ use select::notes::Note;
 use trace::answer::Read;
 use trace::items::{event_of, events_of, pulses_of};
 use trace::reader::number_at;
-use turns::page::Page;
+use report::page::Page;
 use turns::stand::Stand;
 use turns::turn::{Bench, REPLAY_SERIAL};
 use words::changes::{sampled_by, tell_changes, tell_turned};

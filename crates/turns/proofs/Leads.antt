@@ -3,7 +3,7 @@ use Rattle.std.specs.Prelude.{◌≡◌, refl, Bool, true, false, not, Option, S
 use Rattle.std.proofs.Common.{sym, ap, ◌∙◌}
 use Rattle.refusals.specs.declared.refusal.Refusal.{Refusal}
 use Rattle.turns.specs.Bench.{Bench, Takes, desk_of, on_page, bench_of}
-use Rattle.turns.specs.Prints.{page_in}
+use Rattle.report.specs.Prints.{page_in}
 use Rattle.turns.specs.declared.turn.Bench.{Bench as Lent}
 
 -- what is to come leads from here to where all of it leads from the start

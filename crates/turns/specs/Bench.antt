@@ -8,10 +8,10 @@ use Rattle.step.specs.Step.{written}
 use Rattle.chip.specs.Event.{event}
 use Rattle.chip.specs.declared.event.Answer.{Answer}
 use Rattle.report.specs.Lines.{select_line}
-use Rattle.turns.specs.Page.{Page, printed}
+use Rattle.report.specs.Page.{Page, printed}
 use Rattle.turns.specs.Stand.{closes, shown_by, after}
 use Rattle.turns.specs.declared.stand.Stand.{Stand}
-use Rattle.turns.specs.Prints.{page_in}
+use Rattle.report.specs.Prints.{page_in}
 use Rattle.turns.specs.declared.turn.Bench.{Bench as Lent}
 
 -- the bench in the course of a run: the refusal that stopped it, if any; what stands on it; the array; the first bytes of

@@ -8,12 +8,12 @@ use Rattle.step.specs.Step.{written}
 use Rattle.chip.specs.Event.{event}
 use Rattle.chip.specs.declared.event.Answer.{Answer}
 use Rattle.turns.specs.Bench.{Bench, after_events, runs_on, stopped, closing, taken, after_answer, replay_serial, after_event, desk_of, on_page, bench_of}
-use Rattle.turns.specs.Page.{Page, printed}
+use Rattle.report.specs.Page.{Page, printed}
 use Rattle.turns.specs.Stand.{after, shown_by}
 use Rattle.turns.specs.declared.stand.Stand.{Stand}
-use Rattle.turns.specs.Prints.{page_in}
+use Rattle.report.specs.Prints.{page_in}
 use Rattle.turns.specs.declared.turn.Bench.{Bench as Lent}
-use Rattle.turns.specs.PrintLaws.{print_none, print_twice}
+use Rattle.report.specs.PrintLaws.{print_none, print_twice}
 
 -- the bench with a text in front of its own
 abbrev pub front : List ℕ → Bench → Bench

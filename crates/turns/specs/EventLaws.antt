@@ -12,14 +12,14 @@ use Rattle.chip.proofs.RefusalLaws.{refusal_stays}
 use Rattle.chip.specs.declared.event.Answer.{Answer}
 use Rattle.refusals.specs.declared.refusal.Refusal.{Refusal}
 use Rattle.turns.specs.Bench.{Bench, after_events, stopped, select_text, closing, replay_serial, after_event, desk_of, on_page, bench_of}
-use Rattle.turns.specs.Page.{Page, printed}
+use Rattle.report.specs.Page.{Page, printed}
 use Rattle.turns.specs.Stand.{closes, after, shown_by}
 use Rattle.turns.specs.declared.stand.Stand.{Stand}
-use Rattle.turns.specs.Prints.{page_in}
-use Rattle.turns.specs.declared.page.Page.{Page as Sheet}
+use Rattle.report.specs.Prints.{page_in}
+use Rattle.report.specs.declared.page.Page.{Page as Sheet}
 use Rattle.turns.specs.declared.turn.Bench.{Bench as Lent}
 use Rattle.turns.specs.DeskLaws.{tells_events, desk_is, carry}
-use Rattle.turns.specs.PrintLaws.{print_none}
+use Rattle.report.specs.PrintLaws.{print_none}
 
 -- eight bytes are a serial number for every part, so 15 is given to no event on the bench
 pub serial_fits : (part : ℕ) → fits_serial part (length replay_serial) ≡ true

@@ -1,7 +1,3 @@
-pub mod Page
-pub mod PageLaws
-pub mod PrintLaws
-pub mod Prints
 pub mod Stand
 pub mod Bench
 pub mod DeskLaws

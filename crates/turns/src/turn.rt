@@ -1,11 +1,11 @@
 // A turn: what one event does to the bench.
 ghost use Rattle.turns.specs.Bench.{Takes, after_event};
 
-use crate::page::Page;
 use crate::stand::Stand;
 use chip::event::event;
 use parts::figures::SERIAL;
 use refusals::refusal::Refusal;
+use report::page::Page;
 use report::record::SHOWN;
 
 // The bench in the course of a run: the refusal that stopped it, if any, what stands on it, the array, the first bytes of SO in
@@ -39,7 +39,8 @@ impl Bench<'_, '_> {
         self.refusal = None;
         self.stand = after;
         if stand.closes(next) {
-            self.page.print_select(after, &self.shown);
+            self.page
+                .print_select(after.selects, after.told, &self.shown);
         }
     }
 }

@@ -4,16 +4,16 @@ ghost use Rattle.report.specs.Text.{ascii};
 ghost use Rattle.turns.specs.Stand.{opens, closes};
 ghost use Rattle.words.specs.Changes.{code_comes, falls_asleep, power_back, flips, changes, turned, sampled_by};
 ghost use Rattle.words.specs.Lines.{said, open_line, code_line, close_line, latch_line, kept_line};
-ghost use Rattle.turns.specs.Prints.{Prints};
+ghost use Rattle.report.specs.Prints.{Prints};
 
 use crate::lines::{print_close, print_code, print_note, print_open, say};
 use pins::state::State;
 use pins::watch::{is_open, sees_rise};
+use report::page::Page;
 use report::record::{CODE_CLOCKS, Record, sample};
 use select::notes::Note;
 use stages::bits::Taken;
 use stages::close::is_asleep;
-use turns::page::Page;
 use turns::stand::Stand;
 
 // A select opens.

@@ -1,11 +1,11 @@
 // The array at the end: rows of 16 bytes, without the rows that are fresh.
 ghost use Rattle.std.specs.Prelude.{◌≡◌, ◌/◌, length};
 ghost use Rattle.words.specs.Dump.{row_bytes, all_fresh, spaced_byte, spaced, row_text, rows_text, array_text};
-ghost use Rattle.turns.specs.Prints.{Prints};
+ghost use Rattle.report.specs.Prints.{Prints};
 
-use crate::page::{print_address, print_hex};
+use crate::page::print_address;
+use report::page::Page;
 use supply::power::FRESH;
-use turns::page::Page;
 
 // The bytes of a row; `specs/Dump.antt` has them for the definitions.
 const ROW: usize = 16;
@@ -24,7 +24,7 @@ fn print_one(page: &mut Page, byte: u8)
     ensures { Prints page.old (spaced_byte byte) page.new }
 {
     page.print(b" ");
-    print_hex(page, byte);
+    page.print_hex(byte);
 }
 
 // Bytes, one behind the other.

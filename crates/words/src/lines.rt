@@ -1,17 +1,17 @@
 // The lines of the story, each with the place in the trace of the item that it is about.
 ghost use Rattle.words.specs.Lines.{begun, said, power_line, open_line, code_line, close_line, stored_line, held_line, kept_line, kept_held_line, latch_line, note_text, byte_line, shown_text, refused_line, grown_text, run_line, left_line, end_line};
-ghost use Rattle.turns.specs.Prints.{Prints};
+ghost use Rattle.report.specs.Prints.{Prints};
 
-use crate::page::{print_address, print_decimal, print_hex};
+use crate::page::print_address;
 use crate::words::{print_advice, print_command, print_reason};
 use parts::commands::decode;
 use parts::figures::figure_of;
 use parts::guards::Reason;
 use refusals::refusal::Refusal;
+use report::page::Page;
 use report::record::Record;
 use select::notes::Note;
 use stages::bits::Taken;
-use turns::page::Page;
 use turns::stand::Stand;
 
 // A line's beginning.
@@ -19,7 +19,7 @@ use turns::stand::Stand;
 fn begin(page: &mut Page, place: usize, words: &[u8])
     ensures { Prints page.old (begun place words.now) page.new }
 {
-    print_decimal(page, place as u64);
+    page.print_decimal(place as u64);
     page.print(b": ");
     page.print(words);
 }
@@ -39,11 +39,11 @@ pub fn print_power(page: &mut Page, part: u64, size: u64, kept: u8)
     ensures { Prints page.old (power_line part size kept) page.new }
 {
     begin(page, 0, b"power-up of part ");
-    print_decimal(page, part);
+    page.print_decimal(part);
     page.print(b", ");
-    print_decimal(page, size);
+    page.print_decimal(size);
     page.print(b" bytes, kept bits ");
-    print_hex(page, kept);
+    page.print_hex(kept);
     page.print(b"\n");
 }
 
@@ -54,7 +54,7 @@ pub fn print_open(page: &mut Page, place: usize, stand: Stand)
 {
     let told = stand.told;
     begin(page, place, b"select ");
-    print_decimal(page, stand.selects);
+    page.print_decimal(stand.selects);
     if told.ignored {
         page.print(b" wakes the part and is ignored\n");
     } else {
@@ -71,7 +71,7 @@ pub fn print_code(page: &mut Page, place: usize, part: u8, code: u8)
     let ops = f.ops;
     let command = decode(ops, code);
     begin(page, place, b"op-code ");
-    print_hex(page, code);
+    page.print_hex(code);
     page.print(b" ");
     print_command(page, command);
     page.print(b"\n");
@@ -84,9 +84,9 @@ pub fn print_close(page: &mut Page, place: usize, stand: Stand)
 {
     let told = stand.told;
     begin(page, place, b"select ");
-    print_decimal(page, stand.selects);
+    page.print_decimal(stand.selects);
     page.print(b" ends, clocks ");
-    print_decimal(page, told.clocks);
+    page.print_decimal(told.clocks);
     page.print(b"\n");
 }
 
@@ -96,7 +96,7 @@ fn print_stored(page: &mut Page, place: usize, address: usize, byte: u8)
     ensures { Prints page.old (stored_line place address byte) page.new }
 {
     begin(page, place, b"stored ");
-    print_hex(page, byte);
+    page.print_hex(byte);
     page.print(b" at ");
     print_address(page, address);
     page.print(b"\n");
@@ -120,7 +120,7 @@ fn print_kept(page: &mut Page, place: usize, kept: u8)
     ensures { Prints page.old (kept_line place kept) page.new }
 {
     begin(page, place, b"kept bits set to ");
-    print_hex(page, kept);
+    page.print_hex(kept);
     page.print(b"\n");
 }
 
@@ -168,7 +168,7 @@ fn print_byte(page: &mut Page, place: usize, byte: u8)
     ensures { Prints page.old (byte_line place byte) page.new }
 {
     begin(page, place, b"shown ");
-    print_hex(page, byte);
+    page.print_hex(byte);
     page.print(b"\n");
 }
 
@@ -189,7 +189,7 @@ pub fn print_refused(page: &mut Page, place: usize, refusal: Refusal)
     ensures { Prints page.old (refused_line place refusal) page.new }
 {
     begin(page, place, b"refused ");
-    print_decimal(page, u8::from(refusal) as u64);
+    page.print_decimal(u8::from(refusal) as u64);
     print_advice(page, refusal);
     page.print(b"\n");
 }
@@ -200,7 +200,7 @@ fn print_grown(page: &mut Page, word: &[u8], before: u64, after: u64)
     ensures { Prints page.old (grown_text word.now before after) page.new }
 {
     page.print(word);
-    print_decimal(page, after.saturating_sub(before));
+    page.print_decimal(after.saturating_sub(before));
 }
 
 // A run of pulses.
@@ -209,7 +209,7 @@ pub fn print_run(page: &mut Page, place: usize, pulses: u64, before: Record, aft
     ensures { Prints page.old (run_line place pulses before after) page.new }
 {
     begin(page, place, b"run: pulses ");
-    print_decimal(page, pulses);
+    page.print_decimal(pulses);
     print_grown(page, b", clocks ", before.clocks, after.clocks);
     print_grown(page, b", bytes stored ", before.stored, after.stored);
     print_grown(page, b", bytes shown ", before.shown, after.shown);
@@ -223,9 +223,9 @@ pub fn print_left(page: &mut Page, stand: Stand)
 {
     let told = stand.told;
     page.print(b"end: select ");
-    print_decimal(page, stand.selects);
+    page.print_decimal(stand.selects);
     page.print(b" is open, clocks ");
-    print_decimal(page, told.clocks);
+    page.print_decimal(told.clocks);
     page.print(b"\n");
 }
 
@@ -235,7 +235,7 @@ pub fn print_end(page: &mut Page, kept: u8, latch: bool)
     ensures { Prints page.old (end_line kept latch) page.new }
 {
     page.print(b"end: kept bits ");
-    print_hex(page, kept);
+    page.print_hex(kept);
     if latch {
         page.print(b", latch on\n");
     } else {

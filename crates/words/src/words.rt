@@ -1,11 +1,11 @@
 // Words of the story: reasons, commands by name, and what to do about a refusal.
-ghost use Rattle.turns.specs.Prints.{Prints};
+ghost use Rattle.report.specs.Prints.{Prints};
 ghost use Rattle.words.specs.Words.{reason_text, command_text, advice_text};
 
 use parts::commands::Command;
 use parts::guards::Reason;
 use refusals::refusal::Refusal;
-use turns::page::Page;
+use report::page::Page;
 
 // Why a byte was held back.
 #[tactic(auto, unfolding(crate::specs::Words::reason_text))]

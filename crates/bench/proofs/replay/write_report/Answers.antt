@@ -1,5 +1,5 @@
 -- What is put is no longer than the slice.
-use Rattle.turns.specs.PrintLaws.{print_fits}
+use Rattle.report.specs.PrintLaws.{print_fits}
 use Rattle.bench.proofs.replay.write_report.Goals as goal
 
 pub slice_bounds-write-end : goal.slice_bounds-write-end

@@ -1,7 +1,7 @@
 -- A refused power-up has no line 1.
 use Rattle.std.specs.Prelude.{refl, is_none}
 use Rattle.turns.proofs.Leads.{some_given}
-use Rattle.turns.proofs.Pages.{where_not}
+use Rattle.report.proofs.Pages.{where_not}
 use Rattle.bench.proofs.run.print_first.Goals as goal
 
 pub returns-else-is_none : goal.returns-else-is_none

@@ -1,5 +1,5 @@
 -- The line of an open select, then the last line, is the two as one text.
-use Rattle.turns.proofs.Pages.{◌then◌}
+use Rattle.report.proofs.Pages.{◌then◌}
 use Rattle.bench.proofs.text.print_last.Goals as goal
 
 pub returns-clause-prints : goal.returns-clause-prints

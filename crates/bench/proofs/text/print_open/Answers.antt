@@ -1,5 +1,5 @@
 -- A select that is open has its line; else nothing is printed.
-use Rattle.turns.proofs.Pages.{where_not}
+use Rattle.report.proofs.Pages.{where_not}
 use Rattle.bench.proofs.text.print_open.Goals as goal
 
 pub returns-else-is_open : goal.returns-else-is_open

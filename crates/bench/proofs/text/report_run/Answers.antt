@@ -1,6 +1,6 @@
 -- The run from the start, then what is left to tell at its end.
 use Rattle.std.proofs.Common.{rules, refl, ap, ◌∙◌}
-use Rattle.turns.specs.Page.{Page, printed}
+use Rattle.report.specs.Page.{Page, printed}
 use Rattle.bench.specs.Run.{first_text}
 use Rattle.bench.proofs.Runs.{ran_whole}
 use Rattle.bench.proofs.text.report_run.Goals as goal

@@ -1,5 +1,5 @@
 -- Each piece is printed behind the one before.
-use Rattle.turns.proofs.Pages.{◌then◌}
+use Rattle.report.proofs.Pages.{◌then◌}
 use Rattle.story.specs.Story.{not_powered}
 use Rattle.story.proofs.text.print_not_powered.Goals as goal
 

@@ -1,8 +1,8 @@
 -- Wherever the run is, the items that are left lead from there to where all of them lead from the start. Each number moves the place
 -- on in the trace, so the run ends.
 use Rattle.std.proofs.Common.{◌≡◌, ◌-◌, length}
-use Rattle.turns.specs.Page.{printed}
-use Rattle.turns.specs.Prints.{page_in}
+use Rattle.report.specs.Page.{printed}
+use Rattle.report.specs.Prints.{page_in}
 use Rattle.story.specs.Scene.{scene_of}
 use Rattle.story.specs.Story.{left_text}
 use Rattle.story.proofs.told.tell_items.Given as goal

@@ -1,5 +1,5 @@
 -- The line is printed where a select is open.
-use Rattle.turns.proofs.Pages.{where_not}
+use Rattle.report.proofs.Pages.{where_not}
 use Rattle.story.proofs.told.tell_left.Goals as goal
 
 pub returns-else-is_open : goal.returns-else-is_open

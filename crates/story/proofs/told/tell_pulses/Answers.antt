@@ -1,5 +1,5 @@
 -- Each piece is printed behind the one before.
-use Rattle.turns.proofs.Pages.{◌then◌}
+use Rattle.report.proofs.Pages.{◌then◌}
 use Rattle.story.specs.Scene.{pulses_text}
 use Rattle.story.proofs.told.tell_pulses.Goals as goal
 

@@ -1,6 +1,6 @@
 -- What is put is no longer than the slice.
 use Rattle.std.proofs.Common.{arith}
-use Rattle.turns.specs.PrintLaws.{print_fits}
+use Rattle.report.specs.PrintLaws.{print_fits}
 use Rattle.story.proofs.watch.write_story.Goals as goal
 
 pub shared_ref_as_front-write : goal.shared_ref_as_front-write

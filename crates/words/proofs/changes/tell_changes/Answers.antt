@@ -4,8 +4,8 @@ use Rattle.report.specs.Text.{ascii}
 use Rattle.turns.specs.Stand.{opens, closes}
 use Rattle.words.specs.Changes.{code_comes, power_back, changes}
 use Rattle.words.specs.Lines.{said, open_line, code_line, close_line}
-use Rattle.turns.specs.Prints.{Prints}
-use Rattle.turns.proofs.Pages.{where_so, where_not, ◌then◌}
+use Rattle.report.specs.Prints.{Prints}
+use Rattle.report.proofs.Pages.{where_so, where_not, ◌then◌}
 use Rattle.words.proofs.changes.tell_changes.Goals as goal
 use Rattle.words.proofs.changes.tell_changes.Goals.{then-power_back, else-power_back, then-opens, else-opens, then-code_comes, else-code_comes, then-closes, else-closes}
 

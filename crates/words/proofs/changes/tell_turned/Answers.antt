@@ -3,8 +3,8 @@ use Rattle.std.proofs.Common.{◌≡◌, refl, Bool, true, false, not, cond, [],
 use mathlib.Core.Bool.{beq}
 use Rattle.words.specs.Changes.{flips, turned}
 use Rattle.words.specs.Lines.{note_text, latch_line}
-use Rattle.turns.specs.Prints.{Prints}
-use Rattle.turns.proofs.Pages.{none, where_so, where_not, ◌then◌}
+use Rattle.report.specs.Prints.{Prints}
+use Rattle.report.proofs.Pages.{none, where_so, where_not, ◌then◌}
 use Rattle.words.proofs.changes.tell_turned.Goals as goal
 use Rattle.words.proofs.changes.tell_turned.Goals.{then-before-after, else-before-after}
 

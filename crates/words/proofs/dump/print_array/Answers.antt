@@ -1,6 +1,6 @@
 -- Nothing but fresh bytes, or the rows.
 use Rattle.words.specs.Dump.{array_text}
-use Rattle.turns.proofs.Pages.{◌then◌}
+use Rattle.report.proofs.Pages.{◌then◌}
 use Rattle.words.proofs.dump.print_array.Goals as goal
 
 pub returns : goal.returns

@@ -1,6 +1,6 @@
 -- A fresh row is nothing; else its pieces.
 use Rattle.words.specs.Dump.{row_text}
-use Rattle.turns.proofs.Pages.{none, ◌then◌}
+use Rattle.report.proofs.Pages.{none, ◌then◌}
 use Rattle.words.proofs.dump.print_row.Goals as goal
 
 pub returns-then-all_fresh : goal.returns-then-all_fresh

@@ -1,7 +1,7 @@
 -- Wherever the loop is, the rows that are left lead from there to where all of them lead from the start.
 use Rattle.std.proofs.Common.{◌≡◌, ◌∙◌, length}
 use Rattle.words.specs.Dump.{row_bytes}
-use Rattle.turns.proofs.Pages.{left_on, left_over}
+use Rattle.report.proofs.Pages.{left_on, left_over}
 use Rattle.words.proofs.Rows.{more_left, rows_on, rows_over}
 use Rattle.words.proofs.dump.print_rows.Goals as goal
 

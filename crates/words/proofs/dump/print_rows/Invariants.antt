@@ -1,7 +1,7 @@
 -- Wherever the loop is, the rows that are left lead from there to where all of them lead from the start.
 use Rattle.std.proofs.Common.{◌≡◌, ◌-◌, ◌*◌, ◌/◌, length, drop}
-use Rattle.turns.specs.Page.{printed}
-use Rattle.turns.specs.Prints.{page_in}
+use Rattle.report.specs.Page.{printed}
+use Rattle.report.specs.Prints.{page_in}
 use Rattle.words.specs.Dump.{row_bytes, rows_text}
 use Rattle.words.proofs.dump.print_rows.Given as goal
 

@@ -1,6 +1,6 @@
 -- Wherever the loop is, the bytes that are left lead from there to where all of them lead from the start.
 use Rattle.std.proofs.Common.{◌∙◌}
-use Rattle.turns.proofs.Pages.{left_on, left_over}
+use Rattle.report.proofs.Pages.{left_on, left_over}
 use Rattle.words.proofs.Rows.{spaced_on, spaced_over}
 use Rattle.words.proofs.dump.print_spaced.Goals as goal
 

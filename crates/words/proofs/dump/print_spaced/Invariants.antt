@@ -1,7 +1,7 @@
 -- Wherever the loop is, the bytes that are left lead from there to where all of them lead from the start.
 use Rattle.std.proofs.Common.{◌≡◌, drop}
-use Rattle.turns.specs.Page.{printed}
-use Rattle.turns.specs.Prints.{page_in}
+use Rattle.report.specs.Page.{printed}
+use Rattle.report.specs.Prints.{page_in}
 use Rattle.words.specs.Dump.{spaced}
 use Rattle.words.proofs.dump.print_spaced.Given as goal
 

@@ -1,6 +1,6 @@
 -- Each piece is printed behind the one before.
 use Rattle.words.specs.Lines.{grown_text}
-use Rattle.turns.proofs.Pages.{◌then◌}
+use Rattle.report.proofs.Pages.{◌then◌}
 use Rattle.words.proofs.lines.print_grown.Goals as goal
 
 pub returns : goal.returns

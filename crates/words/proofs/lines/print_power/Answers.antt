@@ -1,6 +1,6 @@
 -- Each piece is printed behind the one before.
 use Rattle.words.specs.Lines.{power_line}
-use Rattle.turns.proofs.Pages.{◌then◌}
+use Rattle.report.proofs.Pages.{◌then◌}
 use Rattle.words.proofs.lines.print_power.Goals as goal
 
 pub returns : goal.returns

@@ -2,7 +2,7 @@
 use Rattle.std.proofs.Common.{◌/◌}
 use Rattle.std.proofs.lemmas.Nat.{and_mask}
 use Rattle.words.specs.Words.{address}
-use Rattle.turns.proofs.Pages.{same, ◌then◌}
+use Rattle.report.proofs.Pages.{same, ◌then◌}
 use Rattle.words.proofs.page.print_address.Goals as goal
 
 pub returns : goal.returns

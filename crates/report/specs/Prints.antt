@@ -1,7 +1,7 @@
 -- A text printed on a page that a program has. Assumes nothing.
 use Rattle.std.specs.Prelude.{◌≡◌, List, ℕ}
-use Rattle.turns.specs.Page.{Page, page_of, printed}
-use Rattle.turns.specs.declared.page.Page.{Page as Lent}
+use Rattle.report.specs.Page.{Page, page_of, printed}
+use Rattle.report.specs.declared.page.Page.{Page as Lent}
 
 -- the slice's bytes, and how many of them are put
 abbrev pub page_in : Lent → Page

@@ -1,15 +1,16 @@
 -- Printing on a page: nothing, on a full page, one byte, and one text behind another, which is printing them as one.
 -- Assumes nothing.
 use Rattle.std.specs.Prelude.{◌≡◌, Bool, true, false, cond, List, [], ◌∷◌, ◌++◌, ℕ, suc, ◌+◌, ◌-◌, ◌≤◌, ◌<◌, length, min, set, take, drop, get_or}
-use Rattle.std.proofs.Common.{sym, ap, ◌∙◌, ⊎_elim, add-zero, add-suc, suc-add, add-one, arith, length-set, drop_of_length-le, length-take-le, take_at, drop-cons}
-use Rattle.std.proofs.Math.Nat.{min_comm}
+use Rattle.std.proofs.Common.{refl, sym, ap, ◌∙◌, ⊎_elim, add-zero, add-suc, suc-add, add-one, arith, length-set, drop_of_length-le, length-take-le, take_at, drop-cons}
+use Rattle.std.proofs.Math.Nat.{min_comm, le_refl}
 use Rattle.std.proofs.Math.Seq.{sets, length-sets, take-nil}
-use Rattle.std.proofs.lemmas.List.{take_min}
+use Rattle.std.proofs.lemmas.List.{take_all, take_min}
+use Rattle.std.proofs.lemmas.List.Edits.{sets-eq}
+use Rattle.std.proofs.lemmas.Slice.{put_mid-paste}
 use borrow.Rule.Slice.PartMut.{put_mid}
-use Rattle.report.proofs.Pieces.{written}
-use Rattle.trace.specs.ByteLaws.{below}
-use Rattle.turns.specs.Page.{Page, page_of, fits, printed}
-use Rattle.turns.specs.PageLaws.{cut_fits, printed_front}
+use Rattle.std.proofs.lemmas.Bool.{cases_lt}
+use Rattle.report.specs.Page.{Page, page_of, fits, printed}
+use Rattle.report.specs.PageLaws.{cut_fits, printed_front}
 
 pub print_none : (p : Page) → printed p [] ≡ p
 unfolding printed
@@ -28,6 +29,12 @@ print_one bs at x xs h =
     let room : length bs - at ≡ suc (length bs - suc at) = omega arith in
     rw (room, length-set bs at x, add-suc, suc-add)
 
+-- a text written over a part of the slice that is as long
+written : (a text part : List ℕ) (at k : ℕ) → at + length text ≤ length a → k ≡ length text → part ≡ text → put_mid at k a part ≡ sets a at text
+written a text part at k h size e =
+    put_mid-paste at k a part text (length text) e (sym size) refl
+    ∙ rw (take_all (length text) text (le_refl (length text))) (sym (sets-eq text a at h))
+
 -- as much of a text as has room, written over the part of the slice that is as long
 pub print_part : (bs text part : List ℕ) (at k n : ℕ) → at ≤ length bs → n ≡ min (length text) (length bs - at) → k ≡ n → part ≡ take n text
     → page_of (put_mid at k bs part) (at + n) ≡ printed (page_of bs at) text
@@ -38,7 +45,7 @@ print_part bs text part at k n h is size e = λ i. page_of ((stored ∙ ap (sets
     counted = sym (length-take-le n text (omega (arith, is)))
 
     stored : put_mid at k bs part ≡ sets bs at (take n text)
-    stored = (written bs (take n text) part at k (omega (arith, is, counted)) (size ∙ counted) e).bytes
+    stored = (written bs (take n text) part at k (omega (arith, is, counted)) (size ∙ counted) e)
 
     front : take n text ≡ take (length bs - at) text
     front = rw (is, min_comm (length text) (length bs - at)) (take_min (length bs - at) text)
@@ -50,7 +57,7 @@ print_twice bs at (x ∷ a) b =
     ⊎_elim
     (λ h. ap (λ (p : Page). printed p b) (print_one bs at x a h) ∙ print_twice (set bs at x) (suc at) a b ∙ sym (print_one bs at x (a ++ b) h))
     (λ h. ap (λ (p : Page). printed p b) (print_full bs at (x ∷ a) h) ∙ print_full bs at b h ∙ sym (print_full bs at (x ∷ a ++ b) h))
-    (below at (length bs))
+    (cases_lt at (length bs))
 
 -- a text printed where another ended
 pub print_then : (p q r : Page) (a b : List ℕ) → q ≡ printed p a → r ≡ printed q b → r ≡ printed p (a ++ b)

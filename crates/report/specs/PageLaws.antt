@@ -3,8 +3,9 @@
 use Rattle.std.specs.Prelude.{◌≡◌, List, ◌++◌, ℕ, ◌+◌, ◌≤◌, length, take, drop}
 use Rattle.std.proofs.Common.{ap, ◌∙◌, zero-add, length-take}
 use Rattle.std.proofs.Math.Nat.{sub-zero, min-le_left}
+use Rattle.std.proofs.lemmas.List.{take_all}
 use Rattle.std.proofs.lemmas.List.Edits.{sets, sets-eq}
-use Rattle.turns.specs.Page.{page_of, printed}
+use Rattle.report.specs.Page.{page_of, printed}
 
 abbrev pub cut : List ℕ → List ℕ → List ℕ
 cut out text = take (length out) text
@@ -26,3 +27,8 @@ printed_front out text =
     front =
         sets-eq (cut out text) out 0 fits
         ∙ ap (λ (n : ℕ). cut out text ++ drop n out) (zero-add (length (cut out text)))
+
+-- a text that fits the slice stands whole at its front
+pub printed_whole : (out text : List ℕ) → length text ≤ length out → printed (page_of out 0) text ≡ page_of (text ++ drop (length text) out) (length text)
+printed_whole out text h =
+    printed_front out text ∙ ap (λ (t : List ℕ). page_of (t ++ drop (length t) out) (length t)) (take_all (length out) text h)

@@ -2,8 +2,8 @@
 use Rattle.std.proofs.Common.{◌≤◌, ◌∙◌}
 use Rattle.report.specs.Text.{most_digits, decimal}
 use Rattle.report.proofs.Decimals.{decimal_is, short}
-use Rattle.turns.proofs.Pages.{same}
-use Rattle.words.proofs.page.print_decimal.Goals as goal
+use Rattle.report.proofs.Pages.{same}
+use Rattle.report.proofs.page.Page.print_decimal.Goals as goal
 
 pub returns : goal.returns
 unfolding decimal

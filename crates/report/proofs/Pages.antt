@@ -1,9 +1,9 @@
 -- Texts printed one behind the other are one text. Assumes nothing.
 use Rattle.std.proofs.Common.{◌≡◌, refl, sym, ap, ◌∙◌, Bool, true, false, cond, List, [], ◌++◌, ℕ}
-use Rattle.turns.specs.Page.{Page, printed}
-use Rattle.turns.specs.PrintLaws.{print_none, print_then, print_twice}
-use Rattle.turns.specs.Prints.{Prints, page_in}
-use Rattle.turns.specs.declared.page.Page.{Page as Lent}
+use Rattle.report.specs.Page.{Page, printed}
+use Rattle.report.specs.PrintLaws.{print_none, print_then, print_twice}
+use Rattle.report.specs.Prints.{Prints, page_in}
+use Rattle.report.specs.declared.page.Page.{Page as Lent}
 
 -- nothing is printed
 pub none : (p : Lent) → Prints p [] p
