@@ -9,11 +9,11 @@ ghost use Rattle.bench.specs.Run.{after_item, ran_from, first_text};
 use crate::head::Head;
 use parts::figures::figure_of;
 use pulses::run::take_pulses;
+use report::page::Page;
 use supply::power::{Powered, fill, power_up};
 use trace::answer::Read;
 use trace::items::{event_of, events_of, pulses_of};
 use trace::reader::number_at;
-use report::page::Page;
 use turns::turn::Bench;
 
 // An event or a data byte: its events, up to the first that is refused.

@@ -10,8 +10,8 @@ use crate::head::{Head, head_of};
 use crate::run::{start, take_items};
 use parts::figures::{LARGEST, figure_of};
 use pins::watch::is_open;
-use report::record::SHOWN;
 use report::page::Page;
+use report::record::SHOWN;
 use turns::stand::Stand;
 use turns::turn::Bench;
 
@@ -20,7 +20,7 @@ fn print_open(page: &mut Page, stand: Stand, shown: &[u8; SHOWN])
     ensures { Prints page.old (open_text stand shown.now) page.new }
 {
     if is_open(stand.chip) {
-        page.print_select(stand, shown);
+        page.print_select(stand.selects, stand.told, shown);
     }
 }
 

@@ -7,10 +7,10 @@ use Rattle.report.specs.Lines.{code_text, shown_text, numbered, part_line, count
 use Rattle.report.specs.declared.record.Record.{Record}
 
 -- texts of so many bytes at most, one behind the other
-joined : (a b : List ℕ) (m n : ℕ) → length a ≤ m → length b ≤ n → length (a ++ b) ≤ m + n
+pub joined : (a b : List ℕ) (m n : ℕ) → length a ≤ m → length b ≤ n → length (a ++ b) ≤ m + n
 joined a b m n p q = omega (arith, length-append a b)
 
-four : (a b c d : List ℕ) (k l m n : ℕ) → length a ≤ k → length b ≤ l → length c ≤ m → length d ≤ n → length (a ++ b ++ c ++ d) ≤ k + l + m + n
+pub four : (a b c d : List ℕ) (k l m n : ℕ) → length a ≤ k → length b ≤ l → length c ≤ m → length d ≤ n → length (a ++ b ++ c ++ d) ≤ k + l + m + n
 four a b c d k l m n p q r s = joined (a ++ b ++ c) d (k + l + m) n (joined (a ++ b) c (k + l) m (joined a b k l p q) r) s
 
 five : (a b c d e : List ℕ) (j k l m n : ℕ) → length a ≤ j → length b ≤ k → length c ≤ l → length d ≤ m → length e ≤ n

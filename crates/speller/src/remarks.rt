@@ -2,11 +2,12 @@
 // answer is its length.
 ghost use Rattle.std.specs.Prelude.{◌≡◌, ◌++◌, ◌≤◌, length, drop};
 ghost use Rattle.io.specs.Counts.{IsPrefixLen};
-ghost use Rattle.report.specs.Text.{Puts};
-ghost use Rattle.speller.specs.Remarks.{most_expected, most_place, expected_text, place_text, wrong_text, full_text, long_text, remark_of};
+ghost use Rattle.report.specs.Page.{page_of, printed};
+ghost use Rattle.report.specs.Prints.{Prints};
+ghost use Rattle.speller.specs.Remarks.{most_expected, expected_text, place_text, wrong_text, full_text, remark_of};
 
-use report::lines::{LINE, put_numbered};
-use report::text::put;
+use report::lines::LINE;
+use report::page::Page;
 use sayings::says::Next;
 use spelling::spell::{Fault, Place};
 
@@ -33,63 +34,60 @@ fn expected_text(expected: Next) -> &'static [u8]
 
 // Line and column.
 #[tactic(auto, unfolding(crate::specs::Remarks::place_text))]
-fn put_place(out: &mut [u8; LINE], place: Place) -> usize
-    ensures upper_bound { result ≤ most_place }
-    ensures puts { Puts out.old 0 (place_text place) out.new result }
+fn print_place(page: &mut Page, place: Place)
+    ensures { Prints page.old (place_text place) page.new }
 {
-    let at = put_numbered(out, 0, b"line ", place.line);
-    put_numbered(out, at, b", column ", place.column)
+    page.print_numbered(b"line ", place.line);
+    page.print_numbered(b", column ", place.column);
 }
 
 // A text that is wrong at a place.
 #[tactic(auto, unfolding(crate::specs::Remarks::wrong_text))]
-fn put_wrong(out: &mut [u8; LINE], place: Place, expected: Next) -> usize
-    ensures prefix_len { IsPrefixLen result out.new }
-    ensures value { result ≡ length (wrong_text place expected) }
-    ensures out_after { out.new ≡ wrong_text place expected ++ drop result out.old }
+fn print_wrong(page: &mut Page, place: Place, expected: Next)
+    ensures { Prints page.old (wrong_text place expected) page.new }
 {
-    let at = put_place(out, place);
-    let at = put(out, at, b": expected ");
-    let at = put(out, at, expected_text(expected));
-    put(out, at, b"\n")
+    print_place(page, place);
+    page.print(b": expected ");
+    page.print(expected_text(expected));
+    page.print(b"\n");
 }
 
 // A text whose trace is too long from a place on.
 #[tactic(auto, unfolding(crate::specs::Remarks::full_text))]
-fn put_full(out: &mut [u8; LINE], place: Place) -> usize
-    ensures prefix_len { IsPrefixLen result out.new }
-    ensures value { result ≡ length (full_text place) }
-    ensures out_after { out.new ≡ full_text place ++ drop result out.old }
+fn print_full(page: &mut Page, place: Place)
+    ensures { Prints page.old (full_text place) page.new }
 {
-    let at = put_place(out, place);
-    put(
-        out,
-        at,
-        b": expected the text's end, since a trace has at most 32768 bytes\n",
-    )
-}
-
-// A text that is too long.
-#[tactic(auto, unfolding(crate::specs::Remarks::long_text))]
-fn put_long(out: &mut [u8; LINE]) -> usize
-    ensures prefix_len { IsPrefixLen result out.new }
-    ensures value { result ≡ length long_text }
-    ensures out_after { out.new ≡ long_text ++ drop result out.old }
-{
-    put(out, 0, b"expected a text of at most 262144 characters\n")
+    print_place(page, place);
+    page.print(b": expected the text's end, since a trace has at most 32768 bytes\n");
 }
 
 // The line; none where the text spells a trace.
-#[tactic(auto, unfolding(crate::specs::Remarks::remark_of))]
+#[tactic(auto, unfolding(crate::specs::Remarks::remark_of, crate::specs::Remarks::long_text))]
+fn print_remark(page: &mut Page, answer: Result<usize, Fault>)
+    ensures { Prints page.old (remark_of answer) page.new }
+{
+    match answer {
+        Ok(_) => {}
+        Err(Fault::Wrong { place, expected }) => print_wrong(page, place, expected),
+        Err(Fault::Full { place }) => print_full(page, place),
+        Err(Fault::Long) => page.print(b"expected a text of at most 262144 characters\n"),
+    }
+}
+
+// The same, put at the front of a slice.
+fn put_remark(out: &mut [u8], answer: Result<usize, Fault>) -> usize
+    ensures { page_of out.new result ≡ printed (page_of out.old 0) (remark_of answer) }
+{
+    let mut page = Page::new(out);
+    print_remark(&mut page, answer);
+    page.len()
+}
+
+// The same, at the front of a buffer that has room for any of them.
 pub fn remark(out: &mut [u8; LINE], answer: Result<usize, Fault>) -> usize
     ensures prefix_len { IsPrefixLen result out.new }
     ensures value { result ≡ length (remark_of answer) }
     ensures out_after { out.new ≡ remark_of answer ++ drop result out.old }
 {
-    match answer {
-        Ok(_) => 0,
-        Err(Fault::Wrong { place, expected }) => put_wrong(out, place, expected),
-        Err(Fault::Full { place }) => put_full(out, place),
-        Err(Fault::Long) => put_long(out),
-    }
+    put_remark(out, answer)
 }

@@ -1,5 +1,5 @@
 -- Each piece is printed behind the one before; the latch is a number.
-use Rattle.std.proofs.Common.{◌≡◌, refl, Bool, true, false, cond}
+use Rattle.std.proofs.Common.{◌≡◌, refl, ◌∙◌, Bool, true, false, cond}
 use mir.Val.{bool_byte}
 use Rattle.report.specs.Lines.{end_line}
 use Rattle.report.proofs.Pages.{◌then◌}
@@ -13,7 +13,7 @@ digit false = refl
 pub returns : goal.returns
 unfolding end_line
 returns c =
-    rw (digit _) at
+    rw (c.from.ensures ∙ digit _, c.from-2.ensures, c.number_or_0-number.ensures) at
     (c.print.ensures
     then c.print_hex.ensures
     then c.print_numbered.ensures
