@@ -74,7 +74,8 @@ fn tell_item(bench: &mut Bench, page: &mut Page, place: usize, item: u64)
     }
 }
 
-// The items from `at` on, up to the end or the first refusal.
+// The items from `at` on, up to the end or the first refusal. A number's read gives the place of the next one, so there is no
+// range to go over.
 pub(crate) fn tell_items(bench: &mut Bench, page: &mut Page, trace: &[u8], at: usize)
     ensures same_slice { page.new.out.ghost_name ≡ page.old.out.ghost_name }
     ensures page { printed (page_in page.new) (end_text bench.new.stand bench.new.array.now)
