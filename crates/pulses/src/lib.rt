@@ -2,6 +2,7 @@
 #![tactic(auto)]
 
 pub mod read;
+pub mod ready;
 pub mod run;
 pub mod skip;
 pub mod sums;

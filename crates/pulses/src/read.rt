@@ -1,9 +1,10 @@
 // Whole bytes of a READ.
-ghost use Rattle.std.specs.Prelude.{◌≡◌, true, false, ◌+◌, ◌*◌, ◌<◌, ◌≤◌, length};
+ghost use Rattle.std.specs.Prelude.{◌≡◌, ◌+◌, ◌*◌, ◌<◌, ◌≤◌, length};
 ghost use Rattle.stages.specs.declared.stage.Stage.TheVariants.{ArrayOut};
 ghost use Rattle.pulses.specs.Pulse.{Skips};
-ghost use Rattle.pulses.specs.Sums.{most, counts_on, steady, idle, read_on};
+ghost use Rattle.pulses.specs.Sums.{most, read_on};
 
+use crate::ready::Ready;
 use crate::sums::{Skipped, count_more, nothing};
 use parts::figures::figure_of;
 use pins::state::State;
@@ -41,21 +42,14 @@ fn read_on(stand: Stand, array: &[u8], at: usize, bytes: u64) -> Stand
 }
 
 // Whole bytes of a READ, past those that are told.
-pub(crate) fn skip_read(
-    stand: Stand,
-    array: &[u8],
-    pulses: u64,
-    level: Line,
-    bit: u16,
-    at: usize,
-) -> Skipped
-    requires steady_state { steady stand.chip (length array.now) ≡ true }
-    requires not_idle { idle stand.chip ≡ false }
-    requires counts_fit { counts_on stand.told pulses ≡ true }
-    requires in_stage { stand.chip.stage ≡ ArrayOut level bit at }
-    ensures left_le_pulses { result.left ≤ pulses }
-    ensures skips { Skips stand array.now pulses result array.now }
+pub(crate) fn skip_read(ready: Ready, array: &[u8], level: Line, bit: u16, at: usize) -> Skipped
+    requires own_array { length array.now ≡ ready.len }
+    requires in_stage { ready.stand.chip.stage ≡ ArrayOut level bit at }
+    ensures left_le_pulses { result.left ≤ ready.pulses }
+    ensures skips { Skips ready.stand array.now ready.pulses result array.now }
 {
+    let stand = ready.stand;
+    let pulses = ready.pulses;
     let told = stand.told;
     let bytes = pulses / 8;
     if bit != 7 {

@@ -1,38 +1,36 @@
 // Pulses that one sum answers.
-ghost use Rattle.std.specs.Prelude.{◌≡◌, true, false, ◌≤◌, length};
+ghost use Rattle.std.specs.Prelude.{◌≡◌, ◌≤◌, length};
 ghost use Rattle.pulses.specs.Pulse.{Skips};
-ghost use Rattle.pulses.specs.Sums.{counts_on, steady, idle};
 
 use crate::read::skip_read;
+use crate::ready::Ready;
 use crate::sums::{Skipped, count_more, counts_on, is_idle, is_steady, nothing};
 use crate::write::skip_write;
 use stages::stage::Stage;
 use turns::stand::Stand;
 
 // In an open select.
-fn skip_open(stand: Stand, array: &mut [u8], pulses: u64) -> Skipped
-    requires steady_state { steady stand.chip (length array.old) ≡ true }
-    requires not_idle { idle stand.chip ≡ false }
-    requires counts_fit { counts_on stand.told pulses ≡ true }
-    ensures left_le_pulses { result.left ≤ pulses }
-    ensures skips { Skips stand array.old pulses result array.new }
+fn skip_open(ready: Ready, array: &mut [u8]) -> Skipped
+    requires { length array.old ≡ ready.len }
+    ensures left_le_pulses { result.left ≤ ready.pulses }
+    ensures skips { Skips ready.stand array.old ready.pulses result array.new }
 {
-    let chip = stand.chip;
-    let stage = chip.stage;
-    match stage {
+    let stand = ready.stand;
+    let pulses = ready.pulses;
+    match stand.chip.stage {
         Stage::Over { .. } => {
             let told = stand.told;
             let told = count_more(told, pulses, 0, 0);
             let stand = Stand { told, ..stand };
             Skipped { stand, left: 0 }
         }
-        Stage::ArrayOut { level, bit, at } => skip_read(stand, array, pulses, level, bit, at),
+        Stage::ArrayOut { level, bit, at } => skip_read(ready, array, level, bit, at),
         Stage::Writing {
             came,
             shift,
             last,
             at,
-        } => skip_write(stand, array, pulses, came, shift, last, at),
+        } => skip_write(ready, array, came, shift, last, at),
         _ => nothing(stand, pulses),
     }
 }
@@ -53,5 +51,10 @@ pub(crate) fn skip(stand: Stand, array: &mut [u8], pulses: u64) -> Skipped
     if !counts_on(told, pulses) {
         return nothing(stand, pulses);
     }
-    skip_open(stand, array, pulses)
+    let ready = Ready {
+        stand,
+        len: array.len(),
+        pulses,
+    };
+    skip_open(ready, array)
 }

@@ -1,10 +1,11 @@
 // Whole bytes of a WRITE. SI stands, so that each of them is 00 or FF, and once the array is gone round no more of them changes it.
-ghost use Rattle.std.specs.Prelude.{◌≡◌, true, false, ◌+◌, ◌*◌, ◌%◌, ◌<◌, ◌≤◌, length};
+ghost use Rattle.std.specs.Prelude.{◌≡◌, ◌+◌, ◌*◌, ◌%◌, ◌<◌, ◌≤◌, length};
 ghost use Rattle.stages.specs.Wp.{is_up};
 ghost use Rattle.stages.specs.declared.stage.Stage.TheVariants.{Writing};
 ghost use Rattle.pulses.specs.Pulse.{Skips};
-ghost use Rattle.pulses.specs.Sums.{most, counts_on, steady, idle, still_byte, store_limit, put, fill_bytes, least, before, stored_in, last_stored, write_on, array_on};
+ghost use Rattle.pulses.specs.Sums.{most, still_byte, store_limit, put, fill_bytes, before, stored_in, last_stored, write_on, array_on};
 
+use crate::ready::Ready;
 use crate::sums::{Skipped, count_more, nothing};
 use parts::figures::figure_of;
 use parts::guards::first_protected;
@@ -156,21 +157,20 @@ fn write_on(stand: Stand, size: usize, last: u32, at: usize, bytes: u64) -> Stan
 
 // Whole bytes of a WRITE, from a byte's border on.
 pub(crate) fn skip_write(
-    stand: Stand,
+    ready: Ready,
     array: &mut [u8],
-    pulses: u64,
     came: Came,
     shift: u16,
     last: u32,
     at: usize,
 ) -> Skipped
-    requires steady_state { steady stand.chip (length array.old) ≡ true }
-    requires not_idle { idle stand.chip ≡ false }
-    requires counts_fit { counts_on stand.told pulses ≡ true }
-    requires in_stage { stand.chip.stage ≡ Writing came shift last at }
-    ensures left_le_pulses { result.left ≤ pulses }
-    ensures skips { Skips stand array.old pulses result array.new }
+    requires own_array { length array.old ≡ ready.len }
+    requires in_stage { ready.stand.chip.stage ≡ Writing came shift last at }
+    ensures left_le_pulses { result.left ≤ ready.pulses }
+    ensures skips { Skips ready.stand array.old ready.pulses result array.new }
 {
+    let stand = ready.stand;
+    let pulses = ready.pulses;
     let chip = stand.chip;
     let bytes = pulses / 8;
     if shift != NO_BITS {

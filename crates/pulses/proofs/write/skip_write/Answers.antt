@@ -4,27 +4,27 @@ use Rattle.pulses.specs.WriteOnLaws.{write_inside, write_asks, write_out}
 use Rattle.pulses.proofs.write.skip_write.Goals as goal
 
 pub write_on-stand-requires-clause-at_lt_size : goal.write_on-stand-requires-clause-at_lt_size
-write_on-stand-requires-clause-at_lt_size c = (write_asks c.args.stand c.args.array.now c.requires.steady_state c.requires.not_idle _ _ _ _ _ _ c.requires.counts_fit c.requires.in_stage refl).0
+write_on-stand-requires-clause-at_lt_size c = (write_asks c.args.ready.stand c.args.array.now (rw (← c.requires.own_array) at c.args.ready.steady_state) c.args.ready.not_idle _ _ _ _ _ _ c.args.ready.counts_fit c.requires.in_stage refl).0
 
 pub write_on-stand-requires-clause-size_bound : goal.write_on-stand-requires-clause-size_bound
-write_on-stand-requires-clause-size_bound c = (write_asks c.args.stand c.args.array.now c.requires.steady_state c.requires.not_idle _ _ _ _ _ _ c.requires.counts_fit c.requires.in_stage refl).1.0
+write_on-stand-requires-clause-size_bound c = (write_asks c.args.ready.stand c.args.array.now (rw (← c.requires.own_array) at c.args.ready.steady_state) c.args.ready.not_idle _ _ _ _ _ _ c.args.ready.counts_fit c.requires.in_stage refl).1.0
 
 pub write_on-stand-requires-clause-limit_le_size : goal.write_on-stand-requires-clause-limit_le_size
-write_on-stand-requires-clause-limit_le_size c = (write_asks c.args.stand c.args.array.now c.requires.steady_state c.requires.not_idle _ _ _ _ _ _ c.requires.counts_fit c.requires.in_stage refl).1.1.0
+write_on-stand-requires-clause-limit_le_size c = (write_asks c.args.ready.stand c.args.array.now (rw (← c.requires.own_array) at c.args.ready.steady_state) c.args.ready.not_idle _ _ _ _ _ _ c.args.ready.counts_fit c.requires.in_stage refl).1.1.0
 
 pub write_on-stand-requires-clause-place_fits : goal.write_on-stand-requires-clause-place_fits
-write_on-stand-requires-clause-place_fits c = (write_asks c.args.stand c.args.array.now c.requires.steady_state c.requires.not_idle _ _ _ _ _ _ c.requires.counts_fit c.requires.in_stage refl).1.1.1.0
+write_on-stand-requires-clause-place_fits c = (write_asks c.args.ready.stand c.args.array.now (rw (← c.requires.own_array) at c.args.ready.steady_state) c.args.ready.not_idle _ _ _ _ _ _ c.args.ready.counts_fit c.requires.in_stage refl).1.1.1.0
 
 pub write_on-stand-requires-clause-clocks_fit : goal.write_on-stand-requires-clause-clocks_fit
-write_on-stand-requires-clause-clocks_fit c = (write_asks c.args.stand c.args.array.now c.requires.steady_state c.requires.not_idle _ _ _ _ _ _ c.requires.counts_fit c.requires.in_stage refl).1.1.1.1.0
+write_on-stand-requires-clause-clocks_fit c = (write_asks c.args.ready.stand c.args.array.now (rw (← c.requires.own_array) at c.args.ready.steady_state) c.args.ready.not_idle _ _ _ _ _ _ c.args.ready.counts_fit c.requires.in_stage refl).1.1.1.1.0
 
 pub write_on-stand-requires-clause-stored_fits : goal.write_on-stand-requires-clause-stored_fits
-write_on-stand-requires-clause-stored_fits c = (write_asks c.args.stand c.args.array.now c.requires.steady_state c.requires.not_idle _ _ _ _ _ _ c.requires.counts_fit c.requires.in_stage refl).1.1.1.1.1.1
+write_on-stand-requires-clause-stored_fits c = (write_asks c.args.ready.stand c.args.array.now (rw (← c.requires.own_array) at c.args.ready.steady_state) c.args.ready.not_idle _ _ _ _ _ _ c.args.ready.counts_fit c.requires.in_stage refl).1.1.1.1.1.1
 
 pub write_bytes-requires : goal.write_bytes-requires
 write_bytes-requires c =
-    write_inside c.args.stand c.args.array.now c.requires.steady_state c.requires.not_idle _ _ _ _ c.requires.in_stage
+    write_inside c.args.ready.stand c.args.array.now (rw (← c.requires.own_array) at c.args.ready.steady_state) c.args.ready.not_idle _ _ _ _ c.requires.in_stage
 
 pub returns-clause-skips : goal.returns-clause-skips
-returns-clause-skips c = (write_out _ _ c.requires.steady_state c.requires.not_idle _ _ _ _ _ _ _ _ c.requires.counts_fit c.requires.in_stage c.if-shift-ne-NO_BITS.false c.if-bytes-eq0.false refl
+returns-clause-skips c = (write_out _ _ (rw (← c.requires.own_array) at c.args.ready.steady_state) c.args.ready.not_idle _ _ _ _ _ _ _ _ c.args.ready.counts_fit c.requires.in_stage c.if-shift-ne-NO_BITS.false c.if-bytes-eq0.false refl
     c.write_on-stand.ensures c.write_bytes.ensures).1
