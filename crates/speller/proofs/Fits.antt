@@ -1,5 +1,5 @@
 -- Every remark fits a line's buffer, and so stands whole at its front. Assumes nothing.
-use Rattle.std.proofs.Common.{◌≡◌, refl, sym, ap, ◌∙◌, arith, List, ◌++◌, ℕ, ◌≤◌, length, take, drop, length-take-le, length-append, length-drop, Result, Ok, Err}
+use Rattle.std.proofs.Common.{◌≡◌, refl, sym, ap, ◌∙◌, arith, List, ◌++◌, ℕ, ◌≤◌, length, drop, length-take-le, length-append, length-drop, Result, Ok, Err}
 use Rattle.io.specs.Counts.{IsPrefixLen}
 use Rattle.report.specs.Text.{ascii, line_room}
 use Rattle.report.specs.LineLaws.{joined, four, numbered_fits}

@@ -1,5 +1,4 @@
 -- What is put at the front of the buffer is all of it, since it fits.
-use Rattle.std.proofs.Common.{refl}
 use Rattle.speller.proofs.Fits.{told, left, front}
 use Rattle.speller.proofs.remarks.remark.Goals as goal
 
