@@ -2,15 +2,10 @@
 // refusal that stops it.
 #![tactic(auto)]
 
+use console::{read, say, say_hex, write};
 use trace::answer::{Read, Refused};
 use trace::items::{FIRST_BYTE, LAST_BYTE, pulses_of};
 use trace::reader::{MOST_BYTES, number_at};
-
-// Standard input.
-const STDIN_FILENO: i32 = 0;
-
-// Standard output.
-const STDOUT_FILENO: i32 = 1;
 
 // "Pins: 0 /CS, 1 SCK, 2 SI, 3 /HOLD, 4 /WP, 5 VDD."
 const PINS: [&[u8]; 6] = [b"/CS", b"SCK", b"SI", b"/HOLD", b"/WP", b"VDD"];
@@ -35,7 +30,7 @@ impl Role {
 
 fn main() {
     let mut buf = [0u8; MOST_BYTES];
-    let n = io::read_full(STDIN_FILENO, &mut buf);
+    let n = read(&mut buf);
     list(&buf[..n]);
 }
 
@@ -99,19 +94,4 @@ fn refusal_line(refused: Refused) {
     say(b"refused ", u8::from(refused.refusal) as u64);
     say(b" at ", refused.at as u64);
     write(b"\n");
-}
-
-fn write(text: &[u8]) {
-    io::write_all(STDOUT_FILENO, text);
-}
-
-// Writes a word and a number after it, in decimal; in hex, of two digits at least.
-fn say(word: &[u8], n: u64) {
-    write(word);
-    io::print_decimal(STDOUT_FILENO, n);
-}
-
-fn say_hex(word: &[u8], n: u64) {
-    write(word);
-    io::print_hex(STDOUT_FILENO, n, 2);
 }

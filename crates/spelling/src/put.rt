@@ -9,11 +9,8 @@ ghost use Rattle.sayings.specs.SaysLaws.{Fits};
 
 use sayings::chars::digit;
 use sayings::says::Said;
-use trace::items::LAST_BYTE;
+use trace::items::{FIRST_BYTE, LAST_BYTE};
 use trace::number::write_at;
-
-// The number less which an item is a byte; the events of /CS and /HOLD; `specs/Items.antt` has them for the definitions.
-const FIRST_BYTE: u64 = 12;
 
 // One item.
 fn put_item(out: &mut [u8], at: usize, item: u64) -> Option<usize>
