@@ -1,8 +1,9 @@
--- The table keeps the rule behind it, and its check bytes are bytes. Assumes nothing.
-use Rattle.std.specs.Prelude.{ℕ, zero, suc, ◌+◌, ◌≤◌, ◌<◌, ◌≡◌, refl, Bool, true, false, ◌&&◌, List, [], ◌∷◌, map, eqb, ltb, drop, get_or}
-use Rattle.std.proofs.Common.{zero-le, sym, ap, ◌∙◌, arith, eqb-true, ltb-true, lit<}
+-- The table keeps the rule behind it; and the check byte by the table, byte by byte. Assumes nothing.
+use Rattle.std.specs.Prelude.{ℕ, zero, suc, ◌+◌, ◌≤◌, ◌<◌, ◌≡◌, refl, Bool, true, false, ◌&&◌, List, [], ◌∷◌, map, eqb, ltb, length, drop, get_or}
+use Rattle.std.proofs.Common.{zero-le, sym, ap, ◌∙◌, add-one, arith, eqb-true, ltb-true, lit<, drop-cons}
 use Rattle.std.proofs.lemmas.Bool.{eqb-false}
 use Rattle.std.specs.Int.Bits.{bit_xor}
+use Rattle.std.proofs.Math.Seq.{drop-length}
 use Rattle.laws.specs.TestLaws.{left, right}
 use Rattle.serial.specs.Division.{check_byte}
 use Rattle.serial.specs.Table.{table, crc_of, up_from, ruled}
@@ -47,7 +48,22 @@ small_in (n ∷ ns) (suc i) h = small_in ns i (right (ltb n 256) (all_small ns) 
 pub entry_small : (i : ℕ) → get_or table i 0 < 256
 entry_small i = small_in table i table_small
 
--- ---- all bytes
+-- ---- byte by byte
+
+-- one more byte
+pub crc_goes : (crcs bytes : List ℕ) (crc i at next : ℕ)
+    → i < length bytes
+    → crcs ≡ table
+    → at ≡ bit_xor crc (get_or bytes i 0)
+    → next ≡ get_or crcs at 0
+    → crc_of (drop (i + 1) bytes) next ≡ crc_of (drop i bytes) crc
+crc_goes crcs bytes crc i at next more row place read =
+    ap (crc_of (drop (i + 1) bytes)) (read ∙ (λ k. get_or (row k) (place k) 0))
+    ∙ sym (ap (λ (bs : List ℕ). crc_of bs crc) (drop-cons bytes i 0 more ∙ ap (λ (n : ℕ). get_or bytes i 0 ∷ drop n bytes) (sym (add-one i))))
+
+-- none is left
+pub crc_ends : (bytes : List ℕ) (crc i : ℕ) → i ≡ length bytes → crc_of (drop i bytes) crc ≡ crc
+crc_ends bytes crc i e = ap (λ (n : ℕ). crc_of (drop n bytes) crc) e ∙ ap (λ (bs : List ℕ). crc_of bs crc) (drop-length bytes)
 
 pub crc_small : (bytes : List ℕ) (crc : ℕ) → crc < 256 → crc_of bytes crc < 256
 crc_small [] crc h = h
