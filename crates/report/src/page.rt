@@ -23,8 +23,8 @@ fn capital(n: usize) -> u8
 // A lent slice, and how many of its bytes are put. What is printed comes behind them, and the rest of the slice stays.
 #[derive(Drop)]
 pub struct Page<'a> {
-    out: &'a mut [u8],
-    at: usize,
+    pub out: &'a mut [u8],
+    pub at: usize,
 }
 
 impl<'a> Page<'a> {

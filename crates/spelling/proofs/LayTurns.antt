@@ -10,6 +10,7 @@ use borrow.Author.Tests.{le-ltb, lt-ltb, le-leb, lt-leb}
 use lib.ListN.{length, get_or, set, drop, length-append}
 use lib.Seq.{sets, sets-eq, length-sets, drop-cons}
 use Rattle.trace.specs.Figures.{groups, largest}
+use Rattle.trace.specs.Items.{pulse}
 use Rattle.trace.specs.Answers.{Told, placed}
 use Rattle.trace.specs.ByteLaws.{below}
 use Rattle.trace.specs.Form.{form}
@@ -21,9 +22,9 @@ use Rattle.trace.specs.declared.answer.Refused.{Refused}
 use Rattle.refusals.specs.Refusals.{number_of}
 use Rattle.refusals.specs.RefusalLaws.{given_sole}
 use Rattle.refusals.specs.declared.refusal.Refusal.{Refusal}
-use Rattle.std.specs.Prelude.{Option, Some, None, Result, Ok, Err}
+use Rattle.std.specs.Prelude.{Option, Some, None, Result, Ok, Err, unwrap_or}
 use Rattle.std.specs.Result.{result_ok}
-use Rattle.spelling.specs.Items.{forms, bit_pulse, bit_items}
+use Rattle.spelling.specs.Items.{forms, bit_items}
 use Rattle.sayings.specs.Characters.{digit_of}
 use Rattle.spelling.specs.FormLaws.{forms_append}
 use Rattle.spelling.specs.Lays.{Small, Lays, laid}
@@ -130,20 +131,16 @@ module _ (items : List ℕ) (i : ℕ) (h : i < length items) where
 -- ---- bits
 
 module _ (word : List ℕ) (i : ℕ) (h : i < length word) where
-  bits_drop : (d : Option ℕ) → d ≡ digit_of (get_or word i 0) → forms (bit_items (drop i word)) ≡ forms (bit_pulse d) ++ forms (bit_items (drop (i + 1) word))
-  bits_drop d e =
+  bits_drop : (bit : ℕ) → bit ≡ unwrap_or (digit_of (get_or word i 0)) 16 → forms (bit_items (drop i word)) ≡ forms (pulse bit) ++ forms (bit_items (drop (i + 1) word))
+  bits_drop bit e =
       ap (λ (l : List ℕ). forms (bit_items l)) (drop-cons word i 0 h)
-      ∙ forms_append (bit_pulse (digit_of (get_or word i 0))) (bit_items (drop (suc i) word))
+      ∙ forms_append (pulse (unwrap_or (digit_of (get_or word i 0)) 16)) (bit_items (drop (suc i) word))
       ∙ rw (add-one i, ← e)
 
   module _ {s all t x : List ℕ} {first at : ℕ} (l : Laying s first all t at (forms (bit_items (drop i word)))) where
     pub bit_more :
-        {next : ℕ} {r : Option ℕ} (d : Option ℕ) (bit : ℕ) → d ≡ digit_of (get_or word i 0) → d ≡ Some bit → Lays t at (forms ((4 + bit) ∷ 3 ∷ 2 ∷ [])) x r → r ≡ Some next
+        {next : ℕ} {r : Option ℕ} (d : Option ℕ) (n bit : ℕ) → d ≡ digit_of (get_or word i 0) → n ≡ unwrap_or d 16 → bit ≡ n
+        → Lays t at (forms ((4 + bit) ∷ 3 ∷ 2 ∷ [])) x r → r ≡ Some next
         → Laying s first all x next (forms (bit_items (drop (i + 1) word)))
-    bit_more d bit e f p is = more (forms (bit_items (drop (i + 1) word))) l (rw f at (bits_drop d e)) p is
-
-  -- no bit, no pulse
-  pub bit_none :
-      {s all t : List ℕ} {first at : ℕ} → Laying s first all t at (forms (bit_items (drop i word))) → (d : Option ℕ) → d ≡ digit_of (get_or word i 0) → d ≡ None
-      → Laying s first all t at (forms (bit_items (drop (i + 1) word)))
-  bit_none l d e f = rw (rw f at (bits_drop d e)) at l
+    bit_more d n bit e f g p is =
+        more (forms (bit_items (drop (i + 1) word))) l (bits_drop bit (g ∙ f ∙ ap (λ (o : Option ℕ). unwrap_or o 16) e)) p is

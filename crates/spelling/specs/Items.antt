@@ -1,5 +1,5 @@
 -- What is said, as items of the trace, and the items' bytes. Assumes nothing.
-use Rattle.std.specs.Prelude.{ℕ, ◌+◌, Bool, cond, List, [], ◌∷◌, ◌++◌, Option, Some, None}
+use Rattle.std.specs.Prelude.{ℕ, ◌+◌, Bool, cond, List, [], ◌∷◌, ◌++◌, unwrap_or}
 use Rattle.trace.specs.Figures.{first_byte, last_byte}
 use Rattle.trace.specs.Form.{form}
 use Rattle.trace.specs.Items.{pulse}
@@ -7,14 +7,10 @@ use Rattle.sayings.specs.Characters.{digit_of}
 use Rattle.sayings.specs.declared.says.Said.{Said}
 use Rattle.sayings.specs.declared.says.Said.TheVariants as said
 
--- "single bits, each SI, SCK up, SCK down"; a character that says no digit is no bit
-abbrev pub bit_pulse : Option ℕ → List ℕ
-bit_pulse (Some bit) = pulse bit
-bit_pulse None = []
-
+-- "single bits, each SI, SCK up, SCK down"; a word of bits has no other characters
 abbrev pub bit_items : List ℕ → List ℕ
 bit_items [] = []
-bit_items (c ∷ cs) = bit_pulse (digit_of c) ++ bit_items cs
+bit_items (c ∷ cs) = pulse (unwrap_or (digit_of c) 16) ++ bit_items cs
 
 -- The items of what is said, by a word w, with the line's select open or not. "/CS goes low before the first" byte of a
 -- line, event 0, "and high at the line's end", event 1; around pulses in hold /HOLD falls and rises, events 6 and 7.

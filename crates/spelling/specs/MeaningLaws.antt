@@ -1,10 +1,10 @@
 -- The items that a text names have room in the trace, and each is a trace number. Assumes nothing.
-use Rattle.std.specs.Prelude.{◌≡◌, refl, Bool, true, false, cond, List, [], ◌∷◌, ◌++◌, Option, Some, None, Result, Ok, Err, ℕ, ◌+◌, ◌-◌, ◌≤◌, leb, length}
+use Rattle.std.specs.Prelude.{◌≡◌, refl, Bool, true, false, cond, List, [], ◌∷◌, ◌++◌, Option, Some, None, Result, Ok, Err, ℕ, ◌+◌, ◌-◌, ◌≤◌, leb, length, unwrap_or}
 use Rattle.std.proofs.Common.{ap, ◌∙◌, arith, leb-true, length-append}
 use Rattle.laws.specs.TestLaws.{choose}
 use Rattle.sayings.specs.Characters.{ascii}
 use Rattle.spelling.specs.FormLaws.{forms_append}
-use Rattle.spelling.specs.Items.{bit_pulse, bit_items, items_of, forms}
+use Rattle.spelling.specs.Items.{bit_items, items_of, forms}
 use Rattle.spelling.specs.Lays.{Small}
 use Rattle.spelling.specs.Marks.{Mark, word, line_end, marks}
 use Rattle.spelling.specs.Meaning.{Meaning, names, wrong, full, long, start, here_after, items_said, stepped, stopped, part, word_of, said_by, place_of, ready, adds, onward, walk, meaning}
@@ -109,13 +109,14 @@ small_append : (xs ys : List ℕ) → Small xs → Small ys → Small (xs ++ ys)
 small_append [] ys p q = q
 small_append (x ∷ xs) ys p q = (p.0, small_append xs ys p.1 q)
 
+-- a digit, or 16
+pub bit_small : (bit : Option ℕ) → AtMost 15 bit → unwrap_or bit 16 ≤ 16
+bit_small None h = omega arith
+bit_small (Some d) h = omega arith
+
 bits_small : (w : List ℕ) → Small (bit_items w)
 bits_small [] = tt
-bits_small (c ∷ cs) = small_append (bit_pulse (digit_of c)) (bit_items cs) (go (digit_of c) (digit_small c)) (bits_small cs)
-  where
-    go : (bit : Option ℕ) → AtMost 15 bit → Small (bit_pulse bit)
-    go None h = tt
-    go (Some d) h = (omega arith, (omega arith, (omega arith, tt)))
+bits_small (c ∷ cs) = (let few = bit_small (digit_of c) (digit_small c) in omega arith, (omega arith, (omega arith, bits_small cs)))
 
 items_small : (selected : Bool) (w : List ℕ) (said : Said) → Fits said → Small (items_of selected w said)
 items_small selected w (said.Then n) h = tt

@@ -38,9 +38,8 @@ fn put_bits(out: &mut [u8], at: usize, word: &[u8]) -> Option<usize>
 {
     let mut next = at;
     for c in word {
-        if let Some(bit) = digit(*c) {
-            next = put_items(out, next, &[4 + u64::from(bit), 3, 2])?;
-        }
+        let bit = digit(*c).unwrap_or(16);
+        next = put_items(out, next, &[4 + u64::from(bit), 3, 2])?;
     }
     Some(next)
 }
