@@ -10,6 +10,7 @@ use crate::head::{Head, head_of};
 use crate::run::{start, take_items};
 use parts::figures::{LARGEST, figure_of};
 use pins::watch::is_open;
+use refusals::refusal::number_or_0;
 use report::page::Page;
 use report::record::SHOWN;
 use turns::stand::Stand;
@@ -32,9 +33,11 @@ fn print_last(bench: &mut Bench)
 {
     let stand = bench.stand;
     print_open(bench.page, stand, &bench.shown);
-    bench
-        .page
-        .print_end(stand.chip.kept, stand.chip.latch, bench.refusal);
+    bench.page.print_end(
+        stand.chip.kept,
+        stand.chip.latch,
+        number_or_0(bench.refusal),
+    );
 }
 
 // From power-up on, with an array of the part's size; SO showed nothing yet.
@@ -69,7 +72,7 @@ pub fn report(trace: &[u8], out: &mut [u8]) -> usize
         }
         Err(refusal) => {
             let mut page = Page::new(out);
-            page.print_end(0, false, Some(refusal));
+            page.print_end(0, false, u8::from(refusal));
             page.len()
         }
     }

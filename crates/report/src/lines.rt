@@ -1,13 +1,11 @@
 // The lines of the report, printed on a page.
 ghost use Rattle.std.specs.Prelude.{◌≡◌, length};
-ghost use Rattle.refusals.specs.Refusals.{number_or_0};
 ghost use Rattle.report.specs.Record.{most_shown};
 ghost use Rattle.report.specs.Lines.{code_text, shown_text, part_line, counts_text, select_line, end_line};
 ghost use Rattle.report.specs.Prints.{Prints};
 
 use crate::page::Page;
 use crate::record::{CODE_CLOCKS, Record, SHOWN};
-use refusals::refusal::{Refusal, number_or_0};
 
 // The most bytes of a line (`specs/LineLaws.antt`).
 pub const LINE: usize = 256;
@@ -78,14 +76,13 @@ impl Page<'_> {
 
     // "Last line: kept bits in hex (00 before power-up), latch (0 before power-up), refusal."
     #[tactic(auto, unfolding(crate::specs::Lines::end_line))]
-    pub fn print_end(&mut self, kept: u8, latch: bool, refusal: Option<Refusal>)
-        ensures { Prints self.old (end_line kept latch (number_or_0 refusal)) self.new }
+    pub fn print_end(&mut self, kept: u8, latch: bool, refusal: u8)
+        ensures { Prints self.old (end_line kept latch refusal) self.new }
     {
-        let number = number_or_0(refusal);
         self.print(b"end kept ");
         self.print_hex(kept);
         self.print_numbered(b" latch ", u64::from(latch));
-        self.print_numbered(b" refused ", u64::from(number));
+        self.print_numbered(b" refused ", u64::from(refusal));
         self.print(b"\n");
     }
 }

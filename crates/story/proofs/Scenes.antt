@@ -3,6 +3,7 @@ use Rattle.std.specs.Prelude.{◌≡◌, refl, Bool, true, false, cond, Some, No
 use Rattle.std.proofs.Common.{sym, ap, ◌∙◌, add-one, arith, lt-ltb, le-ltb, drop_of_length-le, drop-cons}
 use Rattle.trace.specs.Figures.{last_byte}
 use Rattle.trace.specs.Items.{short_events}
+use Rattle.refusals.specs.Refusals.{number_of}
 use Rattle.refusals.specs.declared.refusal.Refusal.{Refusal}
 use Rattle.chip.specs.Event.{event}
 use Rattle.chip.specs.Outcomes.{paper_sole}
@@ -35,7 +36,7 @@ module _ (t : Lent) (code : ℕ) (a : Answer) (ys : List ℕ) (does : EventPromi
         let no : is_none (event replay_serial t.array.now t.stand.chip code).refusal ≡ false = rw (← same, h) refl in
         rw (does.1, refusal_stays t.stand.chip replay_serial t.array.now code no, ← same, h)
 
-    pub refused_text : (place : ℕ) {p q : Sheet} → Prints p (refused_line place why) q → Prints p (event_text (scene_of t) place code) q
+    pub refused_text : (place : ℕ) {p q : Sheet} → Prints p (refused_line place (number_of why)) q → Prints p (event_text (scene_of t) place code) q
     unfolding event_text
     refused_text place x = rw (← same, h) x
 

@@ -11,7 +11,6 @@ use Rattle.trace.specs.declared.answer.Read.{Read}
 use Rattle.trace.specs.declared.answer.Read.TheVariants.{Number, End}
 use Rattle.trace.specs.declared.answer.Refused.{Refused}
 use Rattle.refusals.specs.Refusals.{number_of}
-use Rattle.refusals.specs.RefusalLaws.{refusal_back}
 use Rattle.refusals.specs.declared.refusal.Refusal.{Refusal}
 use Rattle.refusals.specs.declared.refusal.Refusal.TheVariants.{NoPart, ArrayLength, KeptBits, Unsound, NoEvent, HoldWithSck, HoldWithCs, Malformed, TooLarge, Beyond, NoRoom, FewAnswers, ChipCount, NoChip, SerialLength, CounterCount}
 use Rattle.parts.specs.Figures.{figure_of}
@@ -101,13 +100,13 @@ module _ (s : List ℕ) (at : ℕ) (found : Result Read Refused) (t : Lent) (rea
       let e : reading s at ≡ ended place = sym read ∙ ap read_told is in
       rw (goes, story_on s at (scene_of t), e)
 
-  pub left_refused : (why : Refused) (p q : Sheet) → found ≡ Err why → Prints p (refused_line at why.refusal) q
+  pub left_refused : (why : Refused) (p q : Sheet) → found ≡ Err why → Prints p (refused_line at (number_of why.refusal)) q
       → printed (page_in q) (end_text t.stand t.array.now) ≡ printed (page_in p) (left_text s at (scene_of t))
   unfolding left_text
   left_refused why p q is x =
       let e : reading s at ≡ refused_at (number_of why.refusal) why.at = sym read ∙ ap read_told is in
-      left_on p q (refused_line at why.refusal) (end_text t.stand t.array.now) (goes_on (story_from s) at (scene_of t))
-      (rw (goes, story_on s at (scene_of t), e, some_row why.refusal, refusal_back why.refusal)) x
+      left_on p q (refused_line at (number_of why.refusal)) (end_text t.stand t.array.now) (goes_on (story_from s) at (scene_of t))
+      (rw (goes, story_on s at (scene_of t), e, some_row why.refusal)) x
 
 take_replicate : (n m a : ℕ) → n ≤ m → take n (replicate m a) ≡ replicate n a
 take_replicate zero m a h = refl

@@ -1,5 +1,6 @@
 -- What is told of an event and of an item, by what stands on the bench and what the event call answers. Assumes nothing.
 use Rattle.std.specs.Prelude.{ℕ, ◌-◌, Bool, cond, List, [], ◌∷◌, ◌++◌, ltb, replicate, Option, Some, None, is_none}
+use Rattle.refusals.specs.Refusals.{number_of}
 use Rattle.refusals.specs.declared.refusal.Refusal.{Refusal}
 use Rattle.trace.specs.Figures.{last_byte}
 use Rattle.trace.specs.Items.{short_events}
@@ -50,7 +51,7 @@ answered_scene b code a =
 
 abbrev pub answered_text : Scene → ℕ → ℕ → Answer → List ℕ
 answered_text b place code a =
-    refused_or a.refusal (refused_line place) (accepted_text place b.stand code (after b.stand code a) a.note)
+    refused_or a.refusal (λ why. refused_line place (number_of why)) (accepted_text place b.stand code (after b.stand code a) a.note)
 
 unfoldable pub event_scene : Scene → ℕ → Scene
 event_scene b code = answered_scene b code (event replay_serial b.array b.stand.chip code)

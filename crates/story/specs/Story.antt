@@ -1,6 +1,6 @@
 -- The story of a trace, whole. Assumes nothing.
 use Rattle.std.specs.Prelude.{ℕ, zero, suc, ◌-◌, cond, List, [], ◌++◌, eqb, length, replicate, None, Result, Ok, Err}
-use Rattle.refusals.specs.RefusalLaws.{refusal_at}
+use Rattle.refusals.specs.Refusals.{number_of}
 use Rattle.refusals.specs.declared.refusal.Refusal.{Refusal}
 use Rattle.trace.specs.Answers.{Told, Value, num, end}
 use Rattle.trace.specs.Number.{reading}
@@ -38,7 +38,7 @@ value_text end at next b more = end_text b.stand b.array
 -- a number that cannot be read is told with its place, and ends it
 abbrev pub read_text : Told → ℕ → Scene → (ℕ → Scene → List ℕ) → List ℕ
 read_text t at b more =
-    cond (eqb t.refusal 0) (value_text t.value at t.place b more) (refused_line at (refusal_at t.refusal) ++ end_text b.stand b.array)
+    cond (eqb t.refusal 0) (value_text t.value at t.place b more) (refused_line at t.refusal ++ end_text b.stand b.array)
 
 -- no more reads than `left`
 abbrev pub story_in : ℕ → List ℕ → ℕ → Scene → List ℕ
@@ -55,7 +55,7 @@ left_text s at b = goes_on (story_from s) at b
 
 -- a trace that does not come to power-up
 unfoldable pub not_powered : Refusal → List ℕ
-not_powered refusal = refused_line 0 refusal ++ ascii "end: no power-up\n"
+not_powered refusal = refused_line 0 (number_of refusal) ++ ascii "end: no power-up\n"
 
 -- from an accepted power-up on
 unfoldable pub from_power : List ℕ → Head → State → List ℕ → List ℕ

@@ -21,7 +21,7 @@ use words::lines::{print_power, print_refused};
 fn print_not_powered(page: &mut Page, refusal: Refusal)
     ensures { Prints page.old (not_powered refusal) page.new }
 {
-    print_refused(page, 0, refusal);
+    print_refused(page, 0, u8::from(refusal));
     page.print(b"end: no power-up\n");
 }
 

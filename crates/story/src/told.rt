@@ -29,7 +29,7 @@ fn tell_event(bench: &mut Bench, page: &mut Page, place: usize, code: u64)
     let answer = event(before.chip, bench.array, &REPLAY_SERIAL, code);
     bench.refusal = answer.refusal;
     match answer.refusal {
-        Some(refusal) => print_refused(page, place, refusal),
+        Some(refusal) => print_refused(page, place, u8::from(refusal)),
         None => {
             let after = before.after(code, answer, &mut bench.shown);
             bench.stand = after;
@@ -92,7 +92,7 @@ pub(crate) fn tell_items(bench: &mut Bench, page: &mut Page, trace: &[u8], at: u
                 return;
             }
             Err(refused) => {
-                print_refused(page, place, refused.refusal);
+                print_refused(page, place, u8::from(refused.refusal));
                 return;
             }
         }

@@ -3,8 +3,6 @@ use Rattle.std.specs.Prelude.{ℕ, ◌-◌, Bool, true, false, cond, List, [], �
 use Rattle.parts.specs.Commands.{command}
 use Rattle.parts.specs.Figures.{figure_of}
 use Rattle.parts.specs.declared.guards.Reason.{Reason}
-use Rattle.refusals.specs.Refusals.{number_of}
-use Rattle.refusals.specs.declared.refusal.Refusal.{Refusal}
 use Rattle.select.specs.declared.notes.Note.{Note}
 use Rattle.select.specs.declared.notes.Note.TheVariants.{Nothing, Latch, Stored, HeldBack, KeptSet, KeptHeldBack, PowerLost}
 use Rattle.stages.specs.declared.bits.Taken.{Taken}
@@ -84,8 +82,8 @@ shown_text place (Part bits) = []
 shown_text place (Whole byte) = byte_line place byte
 
 -- "30: refused 6: /HOLD would move with SCK high; lower SCK first"
-unfoldable pub refused_line : ℕ → Refusal → List ℕ
-refused_line place refusal = begun place (ascii "refused ") ++ decimal (number_of refusal) ++ advice_text refusal ++ ascii "\n"
+unfoldable pub refused_line : ℕ → ℕ → List ℕ
+refused_line place row = begun place (ascii "refused ") ++ decimal row ++ advice_text row ++ ascii "\n"
 
 -- a word, and how much a count grew
 unfoldable pub grown_text : List ℕ → ℕ → ℕ → List ℕ

@@ -1,11 +1,9 @@
 -- Words of the story: addresses, reasons, commands by name, and what to do about a refusal. Assumes nothing.
-use Rattle.std.specs.Prelude.{ℕ, ◌/◌, ◌%◌, List, [], ◌++◌}
+use Rattle.std.specs.Prelude.{ℕ, ◌/◌, ◌%◌, cond, eqb, List, [], ◌++◌}
 use Rattle.parts.specs.declared.commands.Command.{Command}
 use Rattle.parts.specs.declared.commands.Command.TheVariants.{Wren, Wrdi, Rdsr, Wrsr, Read, Fstrd, Write, Rdid, Snr, Sleep, Other}
 use Rattle.parts.specs.declared.guards.Reason.{Reason}
 use Rattle.parts.specs.declared.guards.Reason.TheVariants.{LatchOff, Protect, Block}
-use Rattle.refusals.specs.declared.refusal.Refusal.{Refusal}
-use Rattle.refusals.specs.declared.refusal.Refusal.TheVariants.{NoPart, KeptBits, HoldWithSck, HoldWithCs, Malformed, TooLarge}
 use Rattle.report.specs.Text.{ascii, hex}
 
 -- an address: two bytes in hex
@@ -33,11 +31,12 @@ command_text Sleep = ascii "SLEEP"
 command_text Other = ascii "names no command"
 
 -- what a refusal that a trace can get means, and what to do about it; no trace gets another
-unfoldable pub advice_text : Refusal → List ℕ
-advice_text NoPart = ascii ": no such part; begin with the part, 1 to 5"
-advice_text KeptBits = ascii ": bits that the part does not keep; take bits of 0C on parts 1 and 2, of 8C on parts 3 to 5"
-advice_text HoldWithSck = ascii ": /HOLD would move with SCK high; lower SCK first"
-advice_text HoldWithCs = ascii ": /HOLD would rise with /CS moved; put /CS back first"
-advice_text Malformed = ascii ": number missing, cut off, over four bytes or not shortest; write it whole, in its shortest form"
-advice_text TooLarge = ascii ": leading number over 267; begin with the part and the kept bits"
-advice_text other = []
+unfoldable pub advice_text : ℕ → List ℕ
+advice_text row =
+    cond (eqb row 1) (ascii ": no such part; begin with the part, 1 to 5")
+    (cond (eqb row 3) (ascii ": bits that the part does not keep; take bits of 0C on parts 1 and 2, of 8C on parts 3 to 5")
+    (cond (eqb row 6) (ascii ": /HOLD would move with SCK high; lower SCK first")
+    (cond (eqb row 7) (ascii ": /HOLD would rise with /CS moved; put /CS back first")
+    (cond (eqb row 8) (ascii ": number missing, cut off, over four bytes or not shortest; write it whole, in its shortest form")
+    (cond (eqb row 9) (ascii ": leading number over 267; begin with the part and the kept bits")
+    [])))))

@@ -7,7 +7,6 @@ use crate::words::{print_advice, print_command, print_reason};
 use parts::commands::decode;
 use parts::figures::figure_of;
 use parts::guards::Reason;
-use refusals::refusal::Refusal;
 use report::page::Page;
 use report::record::Record;
 use select::notes::Note;
@@ -183,14 +182,14 @@ pub fn print_shown(page: &mut Page, place: usize, taken: Taken)
     }
 }
 
-// A refusal.
+// A refusal, by its number: every number has a line.
 #[tactic(auto, unfolding(crate::specs::Lines::refused_line))]
-pub fn print_refused(page: &mut Page, place: usize, refusal: Refusal)
-    ensures { Prints page.old (refused_line place refusal) page.new }
+pub fn print_refused(page: &mut Page, place: usize, row: u8)
+    ensures { Prints page.old (refused_line place row) page.new }
 {
     begin(page, place, b"refused ");
-    page.print_decimal(u8::from(refusal) as u64);
-    print_advice(page, refusal);
+    page.print_decimal(u64::from(row));
+    print_advice(page, row);
     page.print(b"\n");
 }
 

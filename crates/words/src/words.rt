@@ -4,7 +4,6 @@ ghost use Rattle.words.specs.Words.{reason_text, command_text, advice_text};
 
 use parts::commands::Command;
 use parts::guards::Reason;
-use refusals::refusal::Refusal;
 use report::page::Page;
 
 // Why a byte was held back.
@@ -41,21 +40,22 @@ pub fn print_command(page: &mut Page, command: Command)
     page.print(words);
 }
 
-// What a refusal means, and what to do about it.
+// What a refusal means, and what to do about it, by its number.
 #[tactic(auto, unfolding(crate::specs::Words::advice_text))]
-pub fn print_advice(page: &mut Page, refusal: Refusal)
-    ensures { Prints page.old (advice_text refusal) page.new }
+pub fn print_advice(page: &mut Page, row: u8)
+    ensures { Prints page.old (advice_text row) page.new }
 {
-    let words: &[u8] = match refusal {
-        Refusal::NoPart => b": no such part; begin with the part, 1 to 5",
-        Refusal::KeptBits =>
+    match row {
+        1 => page.print(b": no such part; begin with the part, 1 to 5"),
+        3 => page.print(
             b": bits that the part does not keep; take bits of 0C on parts 1 and 2, of 8C on parts 3 to 5",
-        Refusal::HoldWithSck => b": /HOLD would move with SCK high; lower SCK first",
-        Refusal::HoldWithCs => b": /HOLD would rise with /CS moved; put /CS back first",
-        Refusal::Malformed =>
+        ),
+        6 => page.print(b": /HOLD would move with SCK high; lower SCK first"),
+        7 => page.print(b": /HOLD would rise with /CS moved; put /CS back first"),
+        8 => page.print(
             b": number missing, cut off, over four bytes or not shortest; write it whole, in its shortest form",
-        Refusal::TooLarge => b": leading number over 267; begin with the part and the kept bits",
-        _ => b"",
-    };
-    page.print(words);
+        ),
+        9 => page.print(b": leading number over 267; begin with the part and the kept bits"),
+        _ => {}
+    }
 }

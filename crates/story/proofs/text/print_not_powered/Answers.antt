@@ -6,5 +6,5 @@ use Rattle.story.proofs.text.print_not_powered.Goals as goal
 pub returns : goal.returns
 unfolding not_powered
 returns c =
-    c.print_refused.ensures
+    (rw c.from.ensures at c.print_refused.ensures)
     then c.print.ensures

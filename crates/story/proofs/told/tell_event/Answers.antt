@@ -6,7 +6,7 @@ use Rattle.story.proofs.told.tell_event.Goals as goal
 pub returns-in-Some : goal.returns-in-Some
 returns-in-Some c = record {
   scene = refused_scene c.args.bench.now _ _ _ c.event-answer.ensures _ c.in-Some.is;
-  prints = refused_text c.args.bench.now _ _ _ c.event-answer.ensures _ c.in-Some.is _ c.print_refused.ensures;
+  prints = refused_text c.args.bench.now _ _ _ c.event-answer.ensures _ c.in-Some.is _ (rw c.from.ensures at c.print_refused.ensures);
 }
 
 pub returns-in-None : goal.returns-in-None

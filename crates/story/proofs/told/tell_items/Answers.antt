@@ -40,7 +40,7 @@ returns-in-Err c =
       same_slice = c.print_refused.ensures.same_slice ∙ before.same_slice;
       page =
           left_refused _ _ _ c.loop-value.bench c.number_at.ensures (none_given _ c.is_none.ensures c.loop-value-test.true)
-          _ _ _ c.in-Err.is c.print_refused.ensures
+          _ _ _ c.in-Err.is (rw c.from.ensures at c.print_refused.ensures)
           ∙ before.page;
     }
 

@@ -9,5 +9,5 @@ returns c =
     rw (← c.from.ensures)
     (c.begin.ensures
     then c.print_decimal.ensures
-    then c.print_advice.ensures
+    then rw c.from.ensures c.print_advice.ensures
     then c.print.ensures)

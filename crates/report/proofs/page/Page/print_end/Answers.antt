@@ -13,7 +13,7 @@ digit false = refl
 pub returns : goal.returns
 unfolding end_line
 returns c =
-    rw (c.from.ensures ∙ digit _, c.from-2.ensures, c.number_or_0-number.ensures) at
+    rw (c.from.ensures ∙ digit _, c.from-2.ensures) at
     (c.print.ensures
     then c.print_hex.ensures
     then c.print_numbered.ensures
