@@ -8,22 +8,17 @@ use trace::reader::MOST_BYTES;
 // so 16,385 lines of selects, line 1 and the last line. This is argued here and not proved.
 const ROOM: usize = (MOST_BYTES / 2 + 3) * LINE;
 
-// The report of a trace, by way of a slice.
-fn write_report(trace: &[u8], out: &mut [u8]) {
-    let n = report(trace, out);
-    write(&out[..n]);
-}
-
-// The same, by way of an array: the slice of an array that is made in the same function, of so many bytes, is too much for
-// the check.
-fn write_by(trace: &[u8], room: &mut [u8; ROOM]) {
-    write_report(trace, room);
+// Writes the report of a trace, which is put into `room`. A function of its own, since a proof does not go over an array of this
+// length where it is made.
+fn write_report(trace: &[u8], room: &mut [u8; ROOM]) {
+    let n = report(trace, room);
+    write(&room[..n]);
 }
 
 // Prints the report of a trace of at most 32,768 bytes.
 pub fn replay(trace: &[u8]) {
     let mut room = [0u8; ROOM];
-    write_by(trace, &mut room);
+    write_report(trace, &mut room);
 }
 
 // "It reads a trace from standard input, up to 32,768 bytes, as if the input ended there."

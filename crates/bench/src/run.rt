@@ -40,7 +40,8 @@ fn take_item(bench: &mut Bench, item: u64)
     }
 }
 
-// The items from `at` on, up to the end or the first refusal.
+// The items from `at` on, up to the end or the first refusal. A number's read gives the place of the next one, so there is no
+// range to go over.
 pub(crate) fn take_items(bench: &mut Bench, trace: &[u8], at: usize)
     ensures { Takes bench.old (ran_from trace.now at) bench.new }
 {

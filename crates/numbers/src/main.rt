@@ -34,7 +34,8 @@ fn main() {
     list(&buf[..n]);
 }
 
-// The numbers from the slice's start to its end or to the first refusal.
+// The numbers from the slice's start to its end or to the first refusal. Each read gives the place of the next one, so there is no
+// range to go over.
 fn list(s: &[u8]) {
     let mut at = 0;
     let mut role = Role::Part;

@@ -19,7 +19,7 @@ fn take_pulse(bench: &mut Bench)
     bench.take_event(2);
 }
 
-// So many pulses, up to the first event that is refused.
+// So many pulses, up to the first event that is refused. What is skipped at once is any number of them.
 pub fn take_pulses(bench: &mut Bench, pulses: u64)
     ensures { Takes bench.old (pulsed pulses) bench.new }
 {

@@ -29,7 +29,7 @@ pub(crate) fn nothing(stand: Stand, pulses: u64) -> Skipped
 }
 
 // The largest number that a count can hold.
-const MOST: u64 = 0xFFFF_FFFF_FFFF_FFFF;
+const MOST: u64 = u64::MAX;
 
 // Whether so many more can be counted.
 fn has_room(count: u64, more: u64) -> bool

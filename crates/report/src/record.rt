@@ -30,7 +30,7 @@ pub struct Record {
 pub fn count(n: u64) -> u64
     ensures { result ≡ counted n }
 {
-    if n < 0xFFFF_FFFF_FFFF_FFFF { n + 1 } else { n }
+    n.saturating_add(1)
 }
 
 // SO's bits with one more, where SO is driven.
@@ -53,7 +53,7 @@ fn code_after(clocks: u64, code: u8, si: bool) -> u8
     if CODE_CLOCKS <= clocks {
         return code;
     }
-    if si { (code << 1) | 1 } else { (code << 1) | 0 }
+    (code << 1) | u8::from(si)
 }
 
 // The byte at its place; a byte that the buffer has no place for is not kept.

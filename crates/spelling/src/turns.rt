@@ -131,7 +131,8 @@ fn finish(here: Here, end: usize) -> Result<Here, Stop>
     }
 }
 
-// The whole text, character by character; its end ends its last line. Where it is wrong, the slice is of no use.
+// The whole text, character by character, and its end, which ends its last line: the place is what a word begins at. Where it is
+// wrong, the slice is of no use.
 #[tactic(auto, using(crate::proofs::TextTurns::text_start, crate::proofs::TextTurns::char_stop))]
 pub(crate) fn pass(text: &[u8], out: &mut [u8]) -> Result<Here, Stop>
     requires { length text.now ≤ longest }
