@@ -8,7 +8,8 @@ use pins::state::State;
 // "up to eight chips"
 pub const MOST: usize = 8;
 
-// The chips' states, in chip order. It goes in by value and comes back by value.
+// The chips' states, in chip order. It goes in by value and comes back by value, so a count beside an array: there is no heap.
+// 13 is given for a count of nine, so no invariant holds it.
 #[derive(Clone, Copy)]
 pub struct Board {
     // How many chips there are; the places behind them mean nothing.

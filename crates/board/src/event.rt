@@ -13,7 +13,7 @@ use chip::event::event as chip_event;
 use pins::state::State;
 use refusals::refusal::Refusal;
 
-// The answer to an event on the board. "No note is given".
+// The answer to an event on the board. "No note is given". The refusal stands beside the board: a refused event still gives one.
 #[derive(Clone, Copy)]
 pub struct BoardAnswer {
     pub refusal: Option<Refusal>,
@@ -21,7 +21,8 @@ pub struct BoardAnswer {
     pub board: Board,
 }
 
-// "A shared line moves every chip": each its own state, its own piece of the slice and its own serial number.
+// "A shared line moves every chip": each its own state, its own piece of the slice and its own serial number. That the slices are
+// as long as all pieces is said by two facts, here and below: a struct would give them up while a piece is lent.
 fn move_every(chips: &mut [State], array: &mut [u8], serials: &[u8], code: u64)
     requires whole_slice { together chips.old ≡ length array.old }
     requires whole_serials { serials_together chips.old ≡ length serials.now }

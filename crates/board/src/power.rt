@@ -1,15 +1,14 @@
 // The board's power-up.
 ghost use Rattle.std.specs.Prelude.{◌≡◌, ◌≤◌, ◌++◌, length, drop};
-ghost use Rattle.parts.specs.Figures.{in_mask};
 ghost use Rattle.supply.specs.Power.{checked};
 ghost use Rattle.board.specs.Power.{together_asked, power_refusal, powered, power_up, spare};
 
 use crate::checks::no_board;
 use crate::chips::{Board, MOST, part_lengths};
-use parts::figures::{figure_of, is_part};
+use parts::figures::is_part;
 use pins::state::State;
 use refusals::refusal::Refusal;
-use supply::power::power_up as chip_power_up;
+use supply::power::{in_mask, power_up as chip_power_up};
 
 // A chip that is asked for: its part and its kept bits.
 #[derive(Clone, Copy)]
@@ -18,7 +17,7 @@ pub struct Asked {
     pub kept: u64,
 }
 
-// The chips that are asked for, in chip order.
+// The chips that are asked for, in chip order. A count beside an array, as in `Board`.
 #[derive(Clone, Copy)]
 pub struct Plan {
     // How many there are; the places behind them mean nothing.
@@ -26,18 +25,18 @@ pub struct Plan {
     pub chips: [Asked; MOST],
 }
 
+// The refusal stands beside the board: a refused power-up still gives one.
 #[derive(Clone, Copy)]
 pub struct PoweredBoard {
     pub refusal: Option<Refusal>,
     pub board: Board,
 }
 
-// Whether the kept bits are under the part's mask.
-fn in_mask(asked: Asked) -> bool
-    ensures { result ≡ in_mask asked.part asked.kept }
+// The places with no chip: what a refused power-up returns.
+fn spare() -> [State; MOST]
+    ensures { result ≡ spare }
 {
-    let mask = u64::from(figure_of(asked.part).kept);
-    asked.kept & mask == asked.kept
+    [State::at_rest(1, 0, false); MOST]
 }
 
 // How long the pieces of the slice are together.
@@ -66,7 +65,7 @@ fn check_power(plan: Plan, len: usize) -> Result<(), Refusal>
     if len != together_asked(chips) {
         return Err(Refusal::ArrayLength);
     }
-    if !chips.iter().all(|asked| in_mask(*asked)) {
+    if !chips.iter().all(|asked| in_mask(asked.part, asked.kept)) {
         return Err(Refusal::KeptBits);
     }
     Ok(())
@@ -78,7 +77,7 @@ fn power_each(asked: &[Asked], array: &[u8]) -> [State; MOST]
     requires whole_slice { together_asked asked.now ≡ length array.now }
     ensures { result ≡ powered asked.now array.now ++ drop (length asked.now) spare }
 {
-    let mut chips = [State::at_rest(1, 0, false); MOST];
+    let mut chips = spare();
     let mut start = 0;
     for (i, one) in asked.iter().enumerate() {
         let end = start + part_lengths(one.part).array;
@@ -102,12 +101,12 @@ pub fn power_up(plan: Plan, array: &[u8]) -> PoweredBoard
                 board: Board { count, chips },
             }
         }
-        Err(refusal) => {
-            let chips = [State::at_rest(1, 0, false); MOST];
-            PoweredBoard {
-                refusal: Some(refusal),
-                board: Board { count: 0, chips },
-            }
-        }
+        Err(refusal) => PoweredBoard {
+            refusal: Some(refusal),
+            board: Board {
+                count: 0,
+                chips: spare(),
+            },
+        },
     }
 }

@@ -255,9 +255,12 @@ impl Rank<'_> {
     }
 
     fn enter(&mut self, entry: &[u8]) {
-        match entry {
-            [b'b', high, low] => self.byte(digit(*high) << 4 | digit(*low)),
-            [b'e', chip, code] => self.one(digit(*chip) as usize, digit(*code)),
+        let [kind, first, second] = *entry else {
+            return;
+        };
+        match (kind, digit(first), digit(second)) {
+            (b'b', Some(high), Some(low)) => self.byte(high << 4 | low),
+            (b'e', Some(chip), Some(code)) => self.one(chip as usize, code),
             _ => {}
         }
     }
@@ -306,7 +309,7 @@ fn play(name: &[u8], board: Board, array: &mut [u8], serials: &[u8], text: &[u8]
     rank.board
 }
 
-// What a hex digit says; 255 where it is none.
-fn digit(c: u8) -> u64 {
-    char::from(c).to_digit(16).map_or(255, u64::from)
+// What a hex digit says.
+fn digit(c: u8) -> Option<u64> {
+    char::from(c).to_digit(16).map(u64::from)
 }

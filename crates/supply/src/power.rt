@@ -1,5 +1,6 @@
 // Power-up, and a fresh array.
 ghost use Rattle.std.specs.Prelude.{◌≡◌};
+ghost use Rattle.parts.specs.Figures.{in_mask};
 ghost use Rattle.supply.specs.Power.{power_refusal, power_up, fill_refusal, checked, fresh};
 ghost use Rattle.supply.specs.Promises.{FillPromise};
 
@@ -15,6 +16,14 @@ pub const FRESH: u8 = 0xFF;
 pub struct Powered {
     pub refusal: Option<Refusal>,
     pub state: State,
+}
+
+// Whether the kept bits are under the part's mask.
+pub fn in_mask(part: u64, kept: u64) -> bool
+    ensures { result ≡ in_mask part kept }
+{
+    let mask = u64::from(figure_of(part).kept);
+    kept & mask == kept
 }
 
 #[tactic(auto, unfolding(crate::specs::Power::fill_refusal))]
@@ -35,7 +44,7 @@ fn check_power(part: u64, kept: u64, len: usize) -> Result<(), Refusal>
     ensures { result ≡ checked (power_refusal part kept len) }
 {
     check_fill(part, len)?;
-    if kept & (figure_of(part).kept as u64) != kept {
+    if !in_mask(part, kept) {
         return Err(Refusal::KeptBits);
     }
     Ok(())
