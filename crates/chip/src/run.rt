@@ -30,7 +30,7 @@ pub(crate) struct Ran {
 pub(crate) fn check_lent(state: State, len: usize, serial: usize) -> Result<(), Refusal>
     ensures { result ≡ checked (lend_refusal state len serial) }
 {
-    let f = figure_of(state.part as u64);
+    let f = figure_of(u64::from(state.part));
     if !sound_by(f, state) {
         return Err(Refusal::Unsound);
     }
@@ -77,7 +77,7 @@ pub(crate) fn go(
     ensures { course_of result array.new levels.new
         ≡ course serial.now (set_all_out None state array.old levels.old) codes.now }
 {
-    let f = figure_of(state.part as u64);
+    let f = figure_of(u64::from(state.part));
     let mut state = state;
     let mut note = Note::Nothing;
     for i in 0..codes.len() {

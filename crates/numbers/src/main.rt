@@ -92,7 +92,7 @@ fn end_line(at: usize) {
 }
 
 fn refusal_line(refused: Refused) {
-    say(b"refused ", u8::from(refused.refusal) as u64);
+    say(b"refused ", u64::from(u8::from(refused.refusal)));
     say(b" at ", refused.at as u64);
     write(b"\n");
 }

@@ -10,7 +10,8 @@ pub const IDENT: usize = 9;
 // How many bytes a serial number has: "a serial number of eight bytes".
 pub const SERIAL: usize = 8;
 
-// Where 0 says none, it is a mask of no bits or a length of nothing, which the rules read as any other: no Option.
+// Where 0 says none, it is a mask of no bits or a length of nothing, and the laws of the table speak of the number (`Rowed`,
+// `Fair`): no Option.
 #[derive(Clone, Copy)]
 pub struct Figure {
     // Bytes of the array.

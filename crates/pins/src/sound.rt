@@ -33,7 +33,7 @@ pub fn sound_by(f: Figure, s: State) -> bool
     ensures { result ≡ sound_by f s }
 {
     let stage = s.stage;
-    if !is_part(s.part as u64) {
+    if !is_part(u64::from(s.part)) {
         return false;
     }
     if s.kept & f.kept != s.kept {
@@ -53,5 +53,5 @@ pub fn sound_by(f: Figure, s: State) -> bool
 pub fn sound(s: State) -> bool
     ensures { result ≡ sound s }
 {
-    sound_by(figure_of(s.part as u64), s)
+    sound_by(figure_of(u64::from(s.part)), s)
 }

@@ -46,7 +46,7 @@ fn put(trace: &mut [u8; MOST_BYTES], at: usize, bytes: &[u8]) -> usize {
 
 // So many pulses as one item.
 fn put_run(trace: &mut [u8; MOST_BYTES], at: usize, pulses: u32) -> usize {
-    match write_at(trace, at, pulses as u64 + LAST_BYTE) {
+    match write_at(trace, at, u64::from(pulses) + LAST_BYTE) {
         Ok(next) => next,
         Err(refused) => refused.at,
     }

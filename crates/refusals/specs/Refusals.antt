@@ -28,11 +28,13 @@ number_of Beyond = 10
 number_of NoRoom = 11
 -- 12 "answer slice shorter than the event slice"
 number_of FewAnswers = 12
--- 13, 14
+-- 13 "no chips or over eight"
 number_of ChipCount = 13
+-- 14 "no such chip, for an own line only"
 number_of NoChip = 14
 -- 15 "serial not eight bytes long"
 number_of SerialLength = 15
+-- 16 "counter slice not one per row"
 number_of CounterCount = 16
 
 -- "a refusal number or 0"

@@ -1,4 +1,4 @@
-// The refusals and their numbers. `specs/Refusals.antt` has document 01's words for each.
+// The refusals and their numbers. `specs/Refusals.antt` has the documents' words for each.
 ghost use Rattle.std.specs.Prelude.{◌≡◌};
 ghost use Rattle.refusals.specs.Refusals.{number_of, number_or_0};
 

@@ -81,8 +81,8 @@ impl<'a> Page<'a> {
     pub fn print_hex(&mut self, byte: u8)
         ensures { Prints self.old (hex byte) self.new }
     {
-        let high = capital((byte >> 4) as usize);
-        let low = capital((byte & 0x0F) as usize);
+        let high = capital(usize::from(byte >> 4));
+        let low = capital(usize::from(byte & 0x0F));
         self.print(&[high, low]);
     }
 

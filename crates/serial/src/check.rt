@@ -59,5 +59,5 @@ fn place(crc: u8, byte: u8) -> usize
     ensures value { result ≡ bit_xor crc byte }
     ensures upper_bound { result < 256 }
 {
-    (crc ^ byte) as usize
+    usize::from(crc ^ byte)
 }

@@ -120,6 +120,6 @@ fn say_answer(word: &[u8], answer: Result<bool, Refusal>) {
             write(word);
             write(b"no");
         }
-        Err(refusal) => say(word, u8::from(refusal) as u64),
+        Err(refusal) => say(word, u64::from(u8::from(refusal))),
     }
 }

@@ -10,7 +10,7 @@ use parts::figures::Figure;
 pub fn widen(x: u8) -> u32
     ensures { result ≡ x }
 {
-    x as u32
+    u32::from(x)
 }
 
 // The top address bit, where the op-code carries it.
@@ -50,7 +50,7 @@ pub fn upper_page(f: Figure, byte: u8) -> u32
 pub fn addressed(f: Figure, purpose: Purpose, page: u32, byte: u8) -> Stage
     ensures { result ≡ after_address f purpose page byte }
 {
-    let at = (page as usize) * 256 + (byte as usize);
+    let at = (page as usize) * 256 + usize::from(byte);
     match purpose {
         Purpose::ToRead => Stage::Ready {
             what: What::Array,

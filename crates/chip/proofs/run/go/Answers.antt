@@ -25,7 +25,7 @@ loop-i-preserved c =
       lend_stays a.serial.now at.array at.state at.levels a.codes.now at.note at.i more _ row c.in-Ok.moved came
           c.store.ensures at.invariant.3,
       loop_goes _ at.array at.state at.levels _ at.note at.i more _ row c.in-Ok.moved came _ _ _
-          c.store.ensures c.so.ensures c.from.ensures
+          c.store.ensures c.so.ensures c.from-in-Ok.ensures
           ∙ at.invariant.4,
     )
 
