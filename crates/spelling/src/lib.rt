@@ -4,5 +4,6 @@
 
 pub mod marks;
 pub mod put;
+mod short;
 pub mod spell;
 pub mod turns;

@@ -4,6 +4,7 @@ ghost use Rattle.std.proofs.lemmas.List.Edits.{sets};
 ghost use Rattle.spelling.specs.Meaning.{longest};
 ghost use Rattle.spelling.specs.Spelt.{Spells, most_bytes, fault_of, next_place, place_from, place_at};
 
+use crate::short::Short;
 use crate::turns::{Stop, pass};
 use sayings::says::Next;
 use trace::reader::MOST_BYTES;
@@ -59,17 +60,16 @@ fn place_behind(front: &[u8]) -> Place
 
 // The place of the character at `i`; at the text's end where there is none.
 #[tactic(auto, unfolding(crate::specs::Spelt::place_at))]
-fn place_at(text: &[u8], i: usize) -> Place
-    requires { length text.now ≤ longest }
-    ensures { result ≡ place_at text.now i }
+fn place_at(short: Short, i: usize) -> Place
+    ensures { result ≡ place_at short.entry.text.now i }
 {
+    let text = short.text;
     place_behind(text.get(..i).unwrap_or(text))
 }
 
 // Why the reading of a text stopped, with line and column.
-fn fault_of(text: &[u8], stop: Stop) -> Fault
-    requires { length text.now ≤ longest }
-    ensures { result ≡ fault_of text.now stop }
+fn fault_of(text: Short, stop: Stop) -> Fault
+    ensures { result ≡ fault_of text.entry.text.now stop }
 {
     match stop {
         Stop::Wrong { place, expected } => Fault::Wrong {
@@ -96,10 +96,9 @@ pub fn copy(out: &mut [u8], at: usize, bytes: &[u8])
 
 // The trace is made in `trace`, and copied where the whole text is spelt.
 #[tactic(auto, using(crate::proofs::SpellTurns::spelt_fits))]
-fn spell_in(text: &[u8], trace: &mut [u8], out: &mut [u8]) -> Result<usize, Fault>
-    requires text_len_bound { length text.now ≤ longest }
-    requires trace_len { (length trace.old ≡ most_bytes) × (length out.old ≡ most_bytes) }
-    ensures { Spells text.now out.old out.new result }
+fn spell_in(text: Short, trace: &mut [u8], out: &mut [u8]) -> Result<usize, Fault>
+    requires { (length trace.old ≡ most_bytes) × (length out.old ≡ most_bytes) }
+    ensures { Spells text.entry.text.now out.old out.new result }
 {
     match pass(text, trace) {
         Ok(here) => {
@@ -120,5 +119,5 @@ pub fn spell(text: &[u8], out: &mut [u8; MOST_BYTES]) -> Result<usize, Fault>
         return Err(Fault::Long);
     }
     let mut trace = [0u8; MOST_BYTES];
-    spell_in(text, &mut trace, out)
+    spell_in(Short { text }, &mut trace, out)
 }

@@ -1,12 +1,13 @@
 // A text's words and lines taken one after the other, each by what it says; the trace grows in a lent slice.
 ghost use Rattle.std.specs.Prelude.{◌≡◌, [], ◌∷◌, ◌++◌, ◌≤◌, length};
 ghost use Rattle.spelling.specs.Marks.{word, line_end, word_marks, line_marks, EndedFits};
-ghost use Rattle.spelling.specs.Meaning.{here_after, ready, longest};
+ghost use Rattle.spelling.specs.Meaning.{here_after, ready};
 ghost use Rattle.sayings.specs.SaysLaws.{FitsIfSaid};
 ghost use Rattle.spelling.specs.Told.{Acts, Follows, finished, passed, wholly};
 
 use crate::marks::{Mode, char_at, line_ended, mode_after, word_ended};
 use crate::put::put_said;
+use crate::short::Short;
 use sayings::chars::kind_of;
 use sayings::says::{Next, Said, hear, hear_end};
 
@@ -134,10 +135,10 @@ fn finish(here: Here, end: usize) -> Result<Here, Stop>
 // The whole text, character by character, and its end, which ends its last line: the place is what a word begins at. Where it is
 // wrong, the slice is of no use.
 #[tactic(auto, using(crate::proofs::TextTurns::text_start, crate::proofs::TextTurns::char_stop))]
-pub(crate) fn pass(text: &[u8], out: &mut [u8]) -> Result<Here, Stop>
-    requires { length text.now ≤ longest }
-    ensures { passed result out.new ≡ wholly text.now out.old }
+pub(crate) fn pass(short: Short, out: &mut [u8]) -> Result<Here, Stop>
+    ensures { passed result out.new ≡ wholly short.entry.text.now out.old }
 {
+    let text = short.text;
     let mut mode = Mode::Between;
     let mut here = Here {
         selected: false,

@@ -6,12 +6,12 @@ use Rattle.spelling.proofs.spell.spell_in.Goals as goal
 
 pub slice_bounds-copy-end-in-Ok : goal.slice_bounds-copy-end-in-Ok
 slice_bounds-copy-end-in-Ok c =
-    sym (length-take-le _ _ (spelt_fits c.args.text.now c.args.trace.now c.pass.new.out c.requires.text_len_bound c.requires.trace_len.0 c.pass.result c.pass.ensures c.in-Ok.here c.in-Ok.is))
+    sym (length-take-le _ _ (spelt_fits c.args.text.text.now c.args.trace.now c.pass.new.out c.args.text.fits c.requires.0 c.pass.result c.pass.ensures c.in-Ok.here c.in-Ok.is))
 
 pub returns-in-Ok : goal.returns-in-Ok
 returns-in-Ok c =
-    spelt_whole c.args.text.now c.args.trace.now c.pass.new.out c.requires.text_len_bound c.requires.trace_len.0 c.pass.result c.pass.ensures c.in-Ok.here _ _ c.in-Ok.is c.requires.trace_len.1 c.copy.ensures
+    spelt_whole c.args.text.text.now c.args.trace.now c.pass.new.out c.args.text.fits c.requires.0 c.pass.result c.pass.ensures c.in-Ok.here _ _ c.in-Ok.is c.requires.1 c.copy.ensures
 
 pub returns-in-Err : goal.returns-in-Err
 returns-in-Err c =
-    fault_whole c.args.text.now c.args.trace.now c.pass.new.out c.requires.text_len_bound c.requires.trace_len.0 c.pass.result c.pass.ensures _ _ _ c.in-Err.is c.fault_of.ensures
+    fault_whole c.args.text.text.now c.args.trace.now c.pass.new.out c.args.text.fits c.requires.0 c.pass.result c.pass.ensures _ _ _ c.in-Err.is c.fault_of.ensures
