@@ -3,7 +3,7 @@ ghost use Rattle.std.specs.Prelude.{◌≡◌, ◌+◌, ◌*◌, ◌%◌, ◌<�
 ghost use Rattle.stages.specs.Wp.{is_up};
 ghost use Rattle.stages.specs.declared.stage.Stage.TheVariants.{Writing};
 ghost use Rattle.pulses.specs.Pulse.{Skips};
-ghost use Rattle.pulses.specs.Sums.{most, still_byte, store_limit, put, fill_bytes, before, stored_in, last_stored, write_on, array_on};
+ghost use Rattle.pulses.specs.Sums.{most, still_byte, store_limit, fill_bytes, before, stored_in, last_stored, write_on};
 
 use crate::ready::Ready;
 use crate::sums::{Skipped, count_more, nothing};
@@ -41,25 +41,32 @@ fn store_limit(chip: State) -> usize
     first_protected(f, chip.kept)
 }
 
-// How many bytes are stored from place 0 up to a place, which is counted on past the array's size.
-#[tactic(auto, unfolding(crate::specs::Sums::before))]
-fn stored_before(size: u64, limit: u64, place: u64) -> u64
-    requires size_nonzero { 0 < size }
-    requires limit_le_size { limit ≤ size }
-    ensures { result ≡ before size limit place }
-{
-    place / size * limit + (place % size).min(limit)
+// An array's size, and the address below which bytes may be stored to.
+#[derive(Clone, Copy)]
+struct Room {
+    size: u64,
+    limit: u64,
+    ghost some: { 0 < size },
+    ghost inside: { limit ≤ size },
 }
 
-// How many of so many bytes from an address on are stored.
-fn stored_in(size: u64, limit: u64, at: u64, bytes: u64) -> u64
-    requires size_nonzero { 0 < size }
-    requires limit_le_size { limit ≤ size }
-    requires place_fits { at + bytes ≤ most }
-    ensures value { result ≡ stored_in size limit at bytes }
-    ensures upper_bound { result ≤ bytes }
-{
-    stored_before(size, limit, at + bytes) - stored_before(size, limit, at)
+impl Room {
+    // How many bytes are stored from place 0 up to a place, which is counted on past the array's size.
+    #[tactic(auto, unfolding(crate::specs::Sums::before))]
+    fn stored_before(self, place: u64) -> u64
+        ensures { result ≡ before self.size self.limit place }
+    {
+        place / self.size * self.limit + (place % self.size).min(self.limit)
+    }
+
+    // How many of so many bytes from an address on are stored.
+    fn stored_in(self, at: u64, bytes: u64) -> u64
+        requires place_fits { at + bytes ≤ most }
+        ensures value { result ≡ stored_in self.size self.limit at bytes }
+        ensures upper_bound { result ≤ bytes }
+    {
+        self.stored_before(at + bytes) - self.stored_before(at)
+    }
 }
 
 // The byte stored last, its address and one: `end` is the address after all the bytes.
@@ -77,50 +84,18 @@ fn last_stored(limit: usize, stored: u64, end: usize, last: u32) -> u32
     }
 }
 
-// A byte where it may be stored.
-fn put_byte(array: &mut [u8], limit: usize, byte: u8, at: usize)
-    requires { at < length array.old }
-    ensures { array.new ≡ put limit byte array.old at }
-{
-    if at < limit {
-        array[at] = byte;
-    }
-}
-
-// "then steps the address, rolling over"
-fn next(at: usize, size: usize) -> usize
-    requires { at < size }
-    ensures { result ≡ (at + 1) % size }
-{
-    (at + 1) % size
-}
-
-// Bytes of one value from an address on, round the array.
+// Bytes of one value from an address on, round the array: each "then steps the address, rolling over".
 fn fill(array: &mut [u8], limit: usize, byte: u8, start: usize, bytes: u64)
     requires { start < length array.old }
     ensures { array.new ≡ fill_bytes (length array.old) limit byte bytes start array.old }
 {
     let mut at = start;
     for _ in 0..bytes {
-        put_byte(array, limit, byte, at);
-        at = next(at, array.len());
+        if at < limit {
+            array[at] = byte;
+        }
+        at = (at + 1) % array.len();
     }
-}
-
-// The array after so many bytes from an address on.
-fn write_bytes(chip: State, array: &mut [u8], at: usize, bytes: u64)
-    requires { at < length array.old }
-    ensures { array.new ≡ array_on chip array.old at bytes }
-{
-    let size = array.len() as u64;
-    let si = chip.si;
-    fill(
-        array,
-        store_limit(chip),
-        still_byte(si),
-        at,
-        size.min(bytes),
-    );
 }
 
 // A WRITE: so many bytes were written, and the next one begins.
@@ -138,7 +113,11 @@ fn write_on(stand: Stand, size: usize, last: u32, at: usize, bytes: u64) -> Stan
     let chip = stand.chip;
     let told = stand.told;
     let limit = store_limit(chip);
-    let stored = stored_in(size as u64, limit as u64, at as u64, bytes);
+    let room = Room {
+        size: size as u64,
+        limit: limit as u64,
+    };
+    let stored = room.stored_in(at as u64, bytes);
     let end = (at + bytes as usize) % size;
     let stage = Stage::Writing {
         came: Came::Bytes,
@@ -180,7 +159,14 @@ pub(crate) fn skip_write(
         return nothing(stand, pulses);
     }
     let stand = write_on(stand, array.len(), last, at, bytes);
-    write_bytes(chip, array, at, bytes);
+    // Past a round of the array no more bytes change it.
+    fill(
+        array,
+        store_limit(chip),
+        still_byte(chip.si),
+        at,
+        (array.len() as u64).min(bytes),
+    );
     Skipped {
         stand,
         left: pulses - bytes * 8,
