@@ -8,7 +8,7 @@
 use board::chips::Board;
 use board::event::{BoardAnswer, event};
 use board::power::{Asked, Plan, power_up};
-use console::{say, write};
+use console::{digit, say, write};
 use pins::state::State;
 use refusals::refusal::number_or_0;
 
@@ -259,8 +259,8 @@ impl Rank<'_> {
             return;
         };
         match (kind, digit(first), digit(second)) {
-            (b'b', Some(high), Some(low)) => self.byte(high << 4 | low),
-            (b'e', Some(chip), Some(code)) => self.one(chip as usize, code),
+            (b'b', Some(high), Some(low)) => self.byte(u64::from(high << 4 | low)),
+            (b'e', Some(chip), Some(code)) => self.one(usize::from(chip), u64::from(code)),
             _ => {}
         }
     }
@@ -307,9 +307,4 @@ fn play(name: &[u8], board: Board, array: &mut [u8], serials: &[u8], text: &[u8]
     };
     rank.play(name, text);
     rank.board
-}
-
-// What a hex digit says.
-fn digit(c: u8) -> Option<u64> {
-    char::from(c).to_digit(16).map(u64::from)
 }

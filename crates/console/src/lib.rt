@@ -36,3 +36,13 @@ pub fn say_hex(word: &[u8], n: u64) {
     write(word);
     io::print_hex(STDOUT, n, 2);
 }
+
+// The value of a hex digit.
+pub fn digit(c: u8) -> Option<u8> {
+    match c {
+        b'0'..=b'9' => Some(c - b'0'),
+        b'A'..=b'F' => Some(c - b'A' + 10),
+        b'a'..=b'f' => Some(c - b'a' + 10),
+        _ => None,
+    }
+}

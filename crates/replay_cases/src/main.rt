@@ -7,7 +7,7 @@
 #![tactic(auto)]
 
 use bench::replay::replay;
-use console::{read, say, write};
+use console::{digit, read, say, write};
 
 // The longest input, and the longest trace of a case.
 const INPUT: usize = 32768;
@@ -153,15 +153,5 @@ fn low(case: Case, trace: &mut [u8], high: u8, b: u8) -> Case {
         place: Place::High,
         line: case.line,
         len: case.len + 1,
-    }
-}
-
-// The value of a hex digit.
-fn digit(b: u8) -> Option<u8> {
-    match b {
-        b'0'..=b'9' => Some(b - b'0'),
-        b'A'..=b'F' => Some(b - b'A' + 10),
-        b'a'..=b'f' => Some(b - b'a' + 10),
-        _ => None,
     }
 }

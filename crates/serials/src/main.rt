@@ -7,7 +7,7 @@
 
 ghost use Rattle.io.specs.Counts.{IsPrefixLen};
 
-use console::{read, say, write};
+use console::{digit, read, say, write};
 use parts::figures::SERIAL;
 use refusals::refusal::Refusal;
 use serial::check::check;
@@ -68,15 +68,6 @@ fn byte_of(pair: &[u8]) -> Option<u8> {
         return None;
     };
     Some(digit(*high)? << 4 | digit(*low)?)
-}
-
-fn digit(c: u8) -> Option<u8> {
-    match c {
-        b'0'..=b'9' => Some(c - b'0'),
-        b'A'..=b'F' => Some(c - b'A' + 10),
-        b'a'..=b'f' => Some(c - b'a' + 10),
-        _ => None,
-    }
 }
 
 // A serial number that is right, with each of its bits turned over: which of them are not found, and how many are.

@@ -1,6 +1,6 @@
 // What stands on the bench: the chip, how many selects it saw, and the record of the last of them.
 ghost use Rattle.std.specs.Prelude.{◌≡◌};
-ghost use Rattle.turns.specs.Stand.{closes, no_event, clocked_by, shown_by, after};
+ghost use Rattle.turns.specs.Stand.{opens, closes, no_event, clocked_by, shown_by, after};
 
 use chip::event::Answer;
 use pins::state::State;
@@ -26,6 +26,15 @@ impl Stand {
             selects: 0,
             told: Record::new(false),
         }
+    }
+
+    // Whether a select opens.
+    #[tactic(auto, unfolding(crate::specs::Stand::opens))]
+    pub fn opens(self, next: State) -> bool
+        ensures { result ≡ opens self.chip next }
+    {
+        let chip = self.chip;
+        !is_open(chip) & is_open(next)
     }
 
     // Whether the select that was open is open no more.
@@ -62,7 +71,7 @@ impl Stand {
         let next = answer.state;
         let note = answer.note;
         let told = self.clocked(code, shown).note(note);
-        if !is_open(chip) & is_open(next) {
+        if self.opens(next) {
             let stage = chip.stage;
             let ignored = is_asleep(stage);
             return Stand {

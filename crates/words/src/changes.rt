@@ -8,20 +8,13 @@ ghost use Rattle.report.specs.Prints.{Prints};
 
 use crate::lines::{print_close, print_code, print_note, print_open, say};
 use pins::state::State;
-use pins::watch::{is_open, sees_rise};
+use pins::watch::sees_rise;
 use report::page::Page;
 use report::record::{CODE_CLOCKS, Record, sample};
 use select::notes::Note;
 use stages::bits::Taken;
 use stages::close::is_asleep;
 use turns::stand::Stand;
-
-// A select opens.
-fn opens(before: State, after: State) -> bool
-    ensures { result ≡ opens before after }
-{
-    !is_open(before) & is_open(after)
-}
 
 // The eighth clock of a select that is not ignored.
 #[tactic(auto, unfolding(crate::specs::Changes::code_comes))]
@@ -60,7 +53,7 @@ pub fn tell_changes(page: &mut Page, place: usize, before: Stand, after: Stand)
     if power_back(was, is) {
         say(page, place, b"power back");
     }
-    if opens(was, is) {
+    if before.opens(is) {
         print_open(page, place, after);
     }
     if code_comes(before.told, told) {
