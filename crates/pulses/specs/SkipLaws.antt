@@ -87,6 +87,14 @@ hold_high_lem false LowCsLow stage h = cc
 hold_high_lem true LowCsHigh stage h = cc
 hold_high_lem false LowCsHigh stage h = cc
 
+-- what whole bytes from a place on ask: the place is in the array, and no count stops within them
+pub record Asked (stand : Stand) (xs : List ℕ) (at m : ℕ) : Type 0 where
+  pub inside : at < length xs
+  pub place : at + m ≤ most
+  pub clocks : stand.told.clocks + m * 8 ≤ most
+  pub shown : stand.told.shown + m ≤ most
+  pub stored : stand.told.stored + m ≤ most
+
 module _ (stand : Stand) (xs : List ℕ) (safe : steady stand.chip (length xs) ≡ true) (sees : idle stand.chip ≡ false) where
   s : State
   s = stand.chip
@@ -146,7 +154,7 @@ module _ (stand : Stand) (xs : List ℕ) (safe : steady stand.chip (length xs) �
       ap (sound_stage (figure_of stand.chip.part)) (sym is) ∙ (good stand.chip (is_sound stand.chip (length xs) safe)).stage
 
   -- the address of a READ lies in the array
-  read_inside : (level : Line) (bit at : ℕ) → stand.chip.stage ≡ ArrayOut level bit at → at < length xs
+  pub read_inside : (level : Line) (bit at : ℕ) → stand.chip.stage ≡ ArrayOut level bit at → at < length xs
   unfolding sound_stage
   read_inside level bit at is = rw long (ltb-true at _ (left _ (ltb bit 8) (staged (ArrayOut level bit at) is)))
 
@@ -183,15 +191,18 @@ module _ (stand : Stand) (xs : List ℕ) (safe : steady stand.chip (length xs) �
           (omega (arith, (counts stand.told n room).1)) many (omega (arith, (counts stand.told n room).2))
           ∙ (λ i. in_open (ArrayOut (bit_of (get_or xs ((at + suc k) % sym long i) 0) 7) 7 ((at + suc k) % sym long i)) (sums i) xs os)
 
-  -- what its bytes ask
-  pub read_asks : (n m : ℕ) (level : Line) (bit at : ℕ) → counts_on stand.told n ≡ true → stand.chip.stage ≡ ArrayOut level bit at → m ≡ n / 8
-      → (at < length xs) × ((at + m ≤ most)
-      × ((stand.told.clocks + m * 8 ≤ most) × ((stand.told.shown + m ≤ most) × (stand.told.stored + 0 ≤ most))))
-  read_asks n m level bit at room is eighth =
+  -- what whole bytes ask
+  pub asks : (n at : ℕ) → counts_on stand.told n ≡ true → at < length xs → Asked stand xs at (n / 8)
+  asks n at room inside =
       let c = counts stand.told n room in
-      let inside = read_inside level bit at is in
       let size = largest stand.chip.part in
-      (inside, (omega (arith, inside, long, size, c.1), (omega (arith, c.1), (omega (arith, c.2), omega (arith, c.3)))))
+      record {
+        inside = inside;
+        place = omega (arith, inside, long, size, c.1);
+        clocks = omega (arith, c.1);
+        shown = omega (arith, c.2);
+        stored = omega (arith, c.3);
+      }
 
   pub read_out : (n m : ℕ) (level : Line) (bit at : ℕ) (r : Stand) → counts_on stand.told n ≡ true → stand.chip.stage ≡ ArrayOut level bit at
       → bit ≡ 7 → stand.told.sample ≡ no_bits → most_shown ≤ stand.told.shown → (m ≡ 0 → ⊥) → m ≡ n / 8 → r ≡ read_on stand xs at m

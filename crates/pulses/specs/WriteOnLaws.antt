@@ -20,7 +20,7 @@ use Rattle.pins.specs.declared.state.State.{State}
 use Rattle.report.specs.declared.record.Record.{Record}
 use Rattle.turns.specs.declared.stand.Stand.{Stand}
 use Rattle.pulses.specs.Pulse.{pulsed, standing, skipped, Skips}
-use Rattle.pulses.specs.Sums.{most, counts_on, steady, idle, more, still_byte, allowed, store_limit, fill_bytes, stores, least, stored_in, last_in, last_stored, write_on, array_on}
+use Rattle.pulses.specs.Sums.{counts_on, steady, idle, more, still_byte, allowed, store_limit, fill_bytes, stores, least, before, in_stage, stored_in, last_in, last_stored, write_on, array_on}
 use Rattle.pulses.specs.PulseLaws.{pulsed_add}
 use Rattle.pulses.specs.IdleLaws.{fits}
 use Rattle.pulses.specs.FillLaws.{stored_in_lem, last_stored_lem, fill_least}
@@ -46,6 +46,14 @@ round_is s xs at n limit byte m ys h bound value count is =
     ∙ (λ i. fill_bytes (length xs) (bound i) (value i) (count i) at xs)
     ∙ fill_least (length xs) (store_limit s) (still_byte (is_up s.si)) n at xs h
 
+-- the stand after a WRITE, from what its parts are
+pub write_is : (stand : Stand) (size last at n limit upto from came : ℕ) (told : Record) → limit ≡ store_limit stand.chip
+    → upto ≡ before size limit (at + n) → from ≡ before size limit at → came ≡ last_stored limit (upto - from) ((at + n) % size) last
+    → told ≡ more stand.told (n * 8) 0 (upto - from)
+    → in_stage stand (Writing Bytes no_bits came ((at + n) % size)) told ≡ write_on stand size last at n
+unfolding write_on
+write_is stand size last at n limit upto from came told bound to start is sums = search
+
 module _ (stand : Stand) (xs : List ℕ) (safe : steady stand.chip (length xs) ≡ true) (sees : idle stand.chip ≡ false) where
   -- the address of a WRITE lies in the array
   pub write_inside : (came : Came) (shift last at : ℕ) → stand.chip.stage ≡ Writing came shift last at → at < length xs
@@ -54,23 +62,12 @@ module _ (stand : Stand) (xs : List ℕ) (safe : steady stand.chip (length xs) �
       let sure = left _ (sound_last (figure_of stand.chip.part) came last) (staged stand xs safe sees (Writing came shift last at) is) in
       rw (long stand xs safe sees) (ltb-true at _ (left _ (sound_shift shift) (left _ (sound_wp (came_up came) shift) sure)))
 
-  -- what its bytes ask
-  pub write_asks : (n m : ℕ) (came : Came) (shift last at : ℕ) → counts_on stand.told n ≡ true → stand.chip.stage ≡ Writing came shift last at → m ≡ n / 8
-      → (at < length xs) × ((length xs ≤ 0xFFFFFFFF) × ((store_limit stand.chip ≤ length xs) × ((at + m ≤ most)
-      × ((stand.told.clocks + m * 8 ≤ most) × ((stand.told.shown + 0 ≤ most) × (stand.told.stored + m ≤ most))))))
-  write_asks n m came shift last at room is eighth =
-      let c = counts stand.told n room in
-      let inside = write_inside came shift last at is in
-      let short : length xs ≤ 0xFFFFFFFF = rw (long stand xs safe sees) (fair stand.chip.part (named stand xs safe sees)).short in (
-        inside,
-        (
-          short,
-          (
-            rw (long stand xs safe sees) (limit_fits (figure_of stand.chip.part) stand.chip.latch stand.chip.kept (is_up stand.chip.wp)),
-            (omega (arith, inside, short, c.1), (omega (arith, c.1), (omega (arith, c.2), omega (arith, c.3)))),
-          ),
-        ),
-      )
+  -- the sizes that its sums ask
+  pub write_short : length xs ≤ 0xFFFFFFFF
+  write_short = rw (long stand xs safe sees) (fair stand.chip.part (named stand xs safe sees)).short
+
+  pub write_below : store_limit stand.chip ≤ length xs
+  write_below = rw (long stand xs safe sees) (limit_fits (figure_of stand.chip.part) stand.chip.latch stand.chip.kept (is_up stand.chip.wp))
 
   -- whole bytes
   skip_write : (n m : ℕ) (came : Came) (last at : ℕ) → counts_on stand.told n ≡ true → stand.chip.stage ≡ Writing came no_bits last at

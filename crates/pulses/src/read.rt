@@ -1,8 +1,7 @@
 // Whole bytes of a READ.
-ghost use Rattle.std.specs.Prelude.{◌≡◌, ◌+◌, ◌*◌, ◌<◌, ◌≤◌, length};
+ghost use Rattle.std.specs.Prelude.{◌≡◌, ◌≤◌, length};
 ghost use Rattle.stages.specs.declared.stage.Stage.TheVariants.{ArrayOut};
 ghost use Rattle.pulses.specs.Pulse.{Skips};
-ghost use Rattle.pulses.specs.Sums.{most, read_on};
 
 use crate::ready::Ready;
 use crate::sums::{Skipped, count_more, nothing};
@@ -14,32 +13,6 @@ use stages::bits::NO_BITS;
 use stages::stage::{Line, Stage, What};
 use turns::stand::Stand;
 use turns::turn::REPLAY_SERIAL;
-
-// A READ: so many bytes were shown, and bit 7 of the next one stands on SO.
-fn read_on(stand: Stand, array: &[u8], at: usize, bytes: u64) -> Stand
-    requires at_in_bounds { at < length array.now }
-    requires place_fits { at + bytes ≤ most }
-    requires clocks_fit { stand.told.clocks + bytes * 8 ≤ most }
-    requires shown_fits { stand.told.shown + bytes ≤ most }
-    requires stored_bound { stand.told.stored + 0 ≤ most }
-    ensures { result ≡ read_on stand array.now at bytes }
-{
-    let chip = stand.chip;
-    let told = stand.told;
-    let next = (at + bytes as usize) % array.len();
-    let ready = Stage::Ready {
-        what: What::Array,
-        at: next,
-    };
-    let stage = fall(figure_of(chip.part as u64), array, &REPLAY_SERIAL, 0, ready);
-    let chip = State { stage, ..chip };
-    let told = count_more(told, bytes * 8, bytes, 0);
-    Stand {
-        chip,
-        selects: stand.selects,
-        told,
-    }
-}
 
 // Whole bytes of a READ, past those that are told.
 pub(crate) fn skip_read(ready: Ready, array: &[u8], level: Line, bit: u16, at: usize) -> Skipped
@@ -64,8 +37,19 @@ pub(crate) fn skip_read(ready: Ready, array: &[u8], level: Line, bit: u16, at: u
     if bytes == 0 {
         return nothing(stand, pulses);
     }
+    // So many bytes were shown, and bit 7 of the next one stands on SO.
+    let chip = stand.chip;
+    let next = Stage::Ready {
+        what: What::Array,
+        at: (at + bytes as usize) % array.len(),
+    };
+    let stage = fall(figure_of(chip.part as u64), array, &REPLAY_SERIAL, 0, next);
     Skipped {
-        stand: read_on(stand, array, at, bytes),
+        stand: Stand {
+            chip: State { stage, ..chip },
+            selects: stand.selects,
+            told: count_more(told, bytes * 8, bytes, 0),
+        },
         left: pulses - bytes * 8,
     }
 }

@@ -1,9 +1,9 @@
 // Whole bytes of a WRITE. SI stands, so that each of them is 00 or FF, and once the array is gone round no more of them changes it.
-ghost use Rattle.std.specs.Prelude.{◌≡◌, ◌+◌, ◌*◌, ◌%◌, ◌<◌, ◌≤◌, length};
+ghost use Rattle.std.specs.Prelude.{◌≡◌, ◌<◌, ◌≤◌, length};
 ghost use Rattle.stages.specs.Wp.{is_up};
 ghost use Rattle.stages.specs.declared.stage.Stage.TheVariants.{Writing};
 ghost use Rattle.pulses.specs.Pulse.{Skips};
-ghost use Rattle.pulses.specs.Sums.{most, still_byte, store_limit, fill_bytes, before, stored_in, last_stored, write_on};
+ghost use Rattle.pulses.specs.Sums.{still_byte, store_limit, fill_bytes, before, last_stored};
 
 use crate::ready::Ready;
 use crate::sums::{Skipped, count_more, nothing};
@@ -58,15 +58,6 @@ impl Room {
     {
         place / self.size * self.limit + (place % self.size).min(self.limit)
     }
-
-    // How many of so many bytes from an address on are stored.
-    fn stored_in(self, at: u64, bytes: u64) -> u64
-        requires place_fits { at + bytes ≤ most }
-        ensures value { result ≡ stored_in self.size self.limit at bytes }
-        ensures upper_bound { result ≤ bytes }
-    {
-        self.stored_before(at + bytes) - self.stored_before(at)
-    }
 }
 
 // The byte stored last, its address and one: `end` is the address after all the bytes.
@@ -98,42 +89,6 @@ fn fill(array: &mut [u8], limit: usize, byte: u8, start: usize, bytes: u64)
     }
 }
 
-// A WRITE: so many bytes were written, and the next one begins.
-#[tactic(auto, unfolding(crate::specs::Sums::write_on))]
-fn write_on(stand: Stand, size: usize, last: u32, at: usize, bytes: u64) -> Stand
-    requires at_lt_size { at < size }
-    requires size_bound { size ≤ 0xFFFFFFFF }
-    requires limit_le_size { store_limit stand.chip ≤ size }
-    requires place_fits { at + bytes ≤ most }
-    requires clocks_fit { stand.told.clocks + bytes * 8 ≤ most }
-    requires shown_bound { stand.told.shown + 0 ≤ most }
-    requires stored_fits { stand.told.stored + bytes ≤ most }
-    ensures { result ≡ write_on stand size last at bytes }
-{
-    let chip = stand.chip;
-    let told = stand.told;
-    let limit = store_limit(chip);
-    let room = Room {
-        size: size as u64,
-        limit: limit as u64,
-    };
-    let stored = room.stored_in(at as u64, bytes);
-    let end = (at + bytes as usize) % size;
-    let stage = Stage::Writing {
-        came: Came::Bytes,
-        shift: NO_BITS,
-        last: last_stored(limit, stored, end, last),
-        at: end,
-    };
-    let chip = State { stage, ..chip };
-    let told = count_more(told, bytes * 8, 0, stored);
-    Stand {
-        chip,
-        selects: stand.selects,
-        told,
-    }
-}
-
 // Whole bytes of a WRITE, from a byte's border on.
 pub(crate) fn skip_write(
     ready: Ready,
@@ -151,6 +106,7 @@ pub(crate) fn skip_write(
     let stand = ready.stand;
     let pulses = ready.pulses;
     let chip = stand.chip;
+    let told = stand.told;
     let bytes = pulses / 8;
     if shift != NO_BITS {
         return nothing(stand, pulses);
@@ -158,17 +114,29 @@ pub(crate) fn skip_write(
     if bytes == 0 {
         return nothing(stand, pulses);
     }
-    let stand = write_on(stand, array.len(), last, at, bytes);
+    let limit = store_limit(chip);
+    let size = array.len();
+    let room = Room {
+        size: size as u64,
+        limit: limit as u64,
+    };
+    let start = at as u64;
+    let stored = room.stored_before(start + bytes) - room.stored_before(start);
+    let end = (at + bytes as usize) % size;
     // Past a round of the array no more bytes change it.
-    fill(
-        array,
-        store_limit(chip),
-        still_byte(chip.si),
-        at,
-        (array.len() as u64).min(bytes),
-    );
+    fill(array, limit, still_byte(chip.si), at, room.size.min(bytes));
+    let stage = Stage::Writing {
+        came: Came::Bytes,
+        shift: NO_BITS,
+        last: last_stored(limit, stored, end, last),
+        at: end,
+    };
     Skipped {
-        stand,
+        stand: Stand {
+            chip: State { stage, ..chip },
+            selects: stand.selects,
+            told: count_more(told, bytes * 8, 0, stored),
+        },
         left: pulses - bytes * 8,
     }
 }
