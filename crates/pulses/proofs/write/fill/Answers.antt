@@ -22,11 +22,11 @@ loop-preserved c =
       | else-at-limit w ↦ puts_out _ _ _ _ _ w.if-at-limit.false w.array-is
     ] in
     let same = ap length puts ∙ put_length c.args.limit c.args.byte c.loop.array c.loop.at ∙ c.loop.invariant.0 in
-    let next = ap (λ (n : ℕ). (c.loop.at + 1) % n) same in
+    let next = c.next-at.ensures ∙ ap (λ (n : ℕ). (c.loop.at + 1) % n) same in
     let less : c.args.bytes - (c.loop.counter + 1) ≡ c.args.bytes - c.loop.counter - 1 = omega arith in (
       same,
       rw next (mod-lt (c.loop.at + 1) (omega (arith, inside))),
-      ap (λ (n : ℕ). fill_bytes (length c.args.array.now) c.args.limit c.args.byte n ((c.loop.at + 1) % length c.if-at-limit.array) c.if-at-limit.array) less
+      ap (λ (n : ℕ). fill_bytes (length c.args.array.now) c.args.limit c.args.byte n c.next-at.result c.if-at-limit.array) less
           ∙ fill_on _ _ _ (c.args.bytes - c.loop.counter) c.loop.at _ c.loop.array _ inside (omega (arith, c.loop-test.true)) next puts
           ∙ c.loop.invariant.2,
     )
