@@ -11,7 +11,7 @@ use Rattle.trace.specs.Number.{reading}
 use Rattle.trace.specs.declared.answer.Read.{Read}
 use Rattle.trace.specs.declared.answer.Read.TheVariants.{Number, End}
 use Rattle.trace.specs.declared.answer.Refused.{Refused}
-use Rattle.bench.specs.Head.{leading}
+use Rattle.bench.specs.Head.{stopped, leading}
 use Rattle.bench.specs.declared.head.Lead.{Lead}
 
 pub no_row_is_0 : (why : Refusal) → eqb (number_of why) 0 ≡ false
@@ -46,7 +46,7 @@ module _ (s : List ℕ) (at : ℕ) (found : Result Read Refused) (read : read_to
   pub refused_there : (r : Refused) → found ≡ Err r → reading s at ≡ refused_at (number_of r.refusal) r.at
   refused_there r is = sym read ∙ ap read_told is
 
-  pub lead_high : (r : Read) (n next : ℕ) → found ≡ Ok r → r ≡ Number n next → last_byte < n → Err TooLarge ≡ leading s at
+  pub lead_high : (r : Read) (n next : ℕ) → found ≡ Ok r → r ≡ Number n next → last_byte < n → stopped TooLarge next ≡ leading s at
   unfolding leading
   lead_high r n next is kind h = rw (number_there r n next is kind, lt-ltb last_byte n h)
 
@@ -54,10 +54,10 @@ module _ (s : List ℕ) (at : ℕ) (found : Result Read Refused) (read : read_to
   unfolding leading
   lead_low r n next is kind h = rw (number_there r n next is kind, le-ltb last_byte n h)
 
-  pub lead_end : (r : Read) (p : ℕ) → found ≡ Ok r → r ≡ End p → Err Malformed ≡ leading s at
+  pub lead_end : (r : Read) (p : ℕ) → found ≡ Ok r → r ≡ End p → stopped Malformed p ≡ leading s at
   unfolding leading
   lead_end r p is kind = rw (end_there r p is kind)
 
-  pub lead_refused : (r : Refused) → found ≡ Err r → Err r.refusal ≡ leading s at
+  pub lead_refused : (r : Refused) → found ≡ Err r → Err r ≡ leading s at
   unfolding leading
   lead_refused r is = rw (refused_there r is, no_row_is_0 r.refusal, refusal_back r.refusal)

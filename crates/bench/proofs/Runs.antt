@@ -33,6 +33,7 @@ use Rattle.bench.specs.Head.{head_of}
 use Rattle.bench.specs.Report.{last_text, whole_text, report, reported}
 use Rattle.bench.specs.Run.{items_from, after_item, after_items, ran_from, first_text, started, ran, replayed}
 use Rattle.bench.specs.declared.head.Head.{Head}
+use Rattle.bench.specs.declared.head.NoHead.{NoHead}
 use Rattle.bench.proofs.Items.{items_on}
 use Rattle.bench.proofs.Leads.{number_there, end_there, refused_there, no_row_is_0}
 use Rattle.bench.proofs.Tells.{tells_ran}
@@ -118,7 +119,7 @@ report_led s out lead f q led row e =
     e ∙ rw (row, take_replicate (figure_of lead.part).size most 0 (largest lead.part), ← led)
 
 -- and where one is refused
-pub report_not : (s out : List ℕ) (why : Refusal) (q : Page) → Err why ≡ head_of s
-    → q ≡ printed (page_of out 0) (end_line 0 false (number_of why)) → q ≡ reported s out
+pub report_not : (s out : List ℕ) (why : NoHead) (q : Page) → Err why ≡ head_of s
+    → q ≡ printed (page_of out 0) (end_line 0 false (number_of why.refusal)) → q ≡ reported s out
 unfolding report replayed is_open
 report_not s out why q led e = e ∙ rw (← led)

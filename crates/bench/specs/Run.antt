@@ -15,6 +15,7 @@ use Rattle.turns.specs.Bench.{Bench, runs_on, stopped, after_events}
 use Rattle.bench.specs.Head.{head_of}
 use Rattle.turns.specs.Stand.{no_event}
 use Rattle.bench.specs.declared.head.Head.{Head}
+use Rattle.bench.specs.declared.head.NoHead.{NoHead}
 
 -- "0 to 11 is an event; 12 to 267 is a data byte .. clocked in"; "from 268 up .. pulses": the item's events
 unfoldable pub after_item : Bench → ℕ → Bench
@@ -89,9 +90,9 @@ not_reached why shown =
     record { refusal = Some why; stand = no_event (at_rest 1 0 false); array = []; shown = shown; text = [] }
 
 -- "It reads both leading numbers before power-up"
-abbrev pub led_by : List ℕ → Result Head Refusal → List ℕ → Bench
+abbrev pub led_by : List ℕ → Result Head NoHead → List ℕ → Bench
 led_by s (Ok lead) shown = ran s lead (replicate (figure_of lead.part).size 0) shown
-led_by s (Err why) shown = not_reached why shown
+led_by s (Err why) shown = not_reached why.refusal shown
 
 -- the whole run
 unfoldable pub replayed : List ℕ → List ℕ → Bench

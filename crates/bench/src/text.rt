@@ -70,9 +70,9 @@ pub fn report(trace: &[u8], out: &mut [u8]) -> usize
             let size = figure_of(head.part).size;
             report_run(trace, head, &mut array[..size], out)
         }
-        Err(refusal) => {
+        Err(no_head) => {
             let mut page = Page::new(out);
-            page.print_end(0, false, u8::from(refusal));
+            page.print_end(0, false, u8::from(no_head.refusal));
             page.len()
         }
     }

@@ -28,6 +28,7 @@ use Rattle.turns.specs.declared.turn.Bench.{Bench as Lent}
 use Rattle.report.proofs.Pages.{left_on, ◌then◌}
 use Rattle.bench.specs.Head.{head_of}
 use Rattle.bench.specs.declared.head.Head.{Head}
+use Rattle.bench.specs.declared.head.NoHead.{NoHead}
 use Rattle.words.specs.Lines.{power_line, refused_line}
 use Rattle.story.specs.Scene.{Scene, scene_of, item_scene, item_text}
 use Rattle.story.specs.Story.{end_text, read_text, goes_on, story_in, story_from, left_text, not_powered, from_power, powered_text, story}
@@ -136,8 +137,8 @@ module _ (s : List ℕ) (lead : Head) (xs ys : List ℕ) (up : Powered) (p q : S
   power_accepted on x = rw (← all-fresh, ← power, on) x
 
 -- the whole story, by what is read of the numbers that lead the trace
-module _ (s : List ℕ) (led : Result Head Refusal) (p q : Sheet) (is : led ≡ head_of s) where
-  pub story_not : (why : Refusal) → led ≡ Err why → Prints p (not_powered why) q → Prints p (story s) q
+module _ (s : List ℕ) (led : Result Head NoHead) (p q : Sheet) (is : led ≡ head_of s) where
+  pub story_not : (why : NoHead) → led ≡ Err why → Prints p (not_powered why.refusal) q → Prints p (story s) q
   unfolding story
   story_not why h x = rw (← is, h) x
 

@@ -14,6 +14,7 @@ use Rattle.turns.specs.Stand.{no_event}
 use Rattle.turns.specs.declared.stand.Stand.{Stand}
 use Rattle.bench.specs.Head.{head_of}
 use Rattle.bench.specs.declared.head.Head.{Head}
+use Rattle.bench.specs.declared.head.NoHead.{NoHead}
 use Rattle.words.specs.Dump.{array_text}
 use Rattle.words.specs.Lines.{power_line, refused_line, left_line, end_line}
 use Rattle.story.specs.Scene.{Scene, runs_on, refused_or, item_scene, item_text}
@@ -72,9 +73,9 @@ powered_text s lead array =
     let xs = filled lead.part fresh array in
     up_text s lead xs (power_up lead.part lead.kept xs)
 
-abbrev pub led_text : List ℕ → Result Head Refusal → List ℕ
+abbrev pub led_text : List ℕ → Result Head NoHead → List ℕ
 led_text s (Ok lead) = powered_text s lead (replicate (figure_of lead.part).size 0)
-led_text s (Err refusal) = not_powered refusal
+led_text s (Err why) = not_powered why.refusal
 
 -- "It reads both leading numbers before power-up", as the replay does
 unfoldable pub story : List ℕ → List ℕ

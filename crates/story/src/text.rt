@@ -62,7 +62,7 @@ fn print_story(page: &mut Page, trace: &[u8])
     ensures { Prints page.old (story trace.now) page.new }
 {
     match head_of(trace) {
-        Err(refusal) => print_not_powered(page, refusal),
+        Err(no_head) => print_not_powered(page, no_head.refusal),
         Ok(lead) => {
             let mut array = [0u8; LARGEST];
             let size = figure_of(lead.part).size;

@@ -15,4 +15,4 @@ returns-in-Ok c = report_led _ _ _ _ _ (sym c.in-Ok.is ∙ c.head_of.ensures) c.
 
 pub returns-in-Err : goal.returns-in-Err
 returns-in-Err c =
-    report_not c.args.trace.now c.args.out.now c.in-Err.refusal _ (sym c.in-Err.is ∙ c.head_of.ensures) (search (rules, ◌∙◌))
+    report_not c.args.trace.now c.args.out.now c.in-Err.no_head _ (sym c.in-Err.is ∙ c.head_of.ensures) (search (rules, ◌∙◌))
