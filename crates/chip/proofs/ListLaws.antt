@@ -91,25 +91,30 @@ module _ (serial : List ℕ) where
           ∙ ap (λ (a : Answer). course serial (turn here a) (drop (i + 1) codes)) (sym (told came))
           ∙ course_stays (stops_at here (Some why)) (drop (i + 1) codes) refl)
 
-      module _ (m : Moved) (came : Ok m ≡ tried f serial xs s code) where
-        part_stays : m.state.part ≡ s.part
+      -- after an event that was tried, accepted or refused
+      module _ {t : Result Moved Refusal} (came : t ≡ tried f serial xs s code) where
+        abbrev after : Answer
+        after = answer_of s t
+
+        part_stays : after.state.part ≡ s.part
         part_stays = ap (λ (a : Answer). a.state.part) (told came) ∙ event_part s serial xs code
 
-        pub row_stays : f ≡ figure_of m.state.part
+        pub row_stays : f ≡ figure_of after.state.part
         row_stays = row ∙ ap figure_of (sym part_stays)
 
         -- nothing is refused of the next state and what is lent with it either: an event leads from a sound state to a sound one of
         -- the same part, and what it stores keeps the array's length
-        pub lend_stays : {ys : List ℕ} → ys ≡ written m.note xs → lend_refusal s (length xs) (length serial) ≡ None
-            → lend_refusal m.state (length ys) (length serial) ≡ None
+        pub lend_stays : {ys : List ℕ} → ys ≡ written after.note xs → lend_refusal s (length xs) (length serial) ≡ None
+            → lend_refusal after.state (length ys) (length serial) ≡ None
         lend_stays {ys} stored lent =
             let passed = lend_passed s (length xs) (length serial) lent in
-            lend_none m.state (length ys) (length serial) (
+            lend_none after.state (length ys) (length serial) (
               ap (λ (a : Answer). sound a.state) (told came) ∙ event_sound s passed.0 serial xs code,
-              ap (λ (p : ℕ). fits_part p (length ys)) part_stays ∙ ap (fits_part s.part) (ap length stored ∙ written_length m.note xs) ∙ passed.1,
+              ap (λ (p : ℕ). fits_part p (length ys)) part_stays ∙ ap (fits_part s.part) (ap length stored ∙ written_length after.note xs) ∙ passed.1,
               ap (λ (p : ℕ). fits_serial p (length serial)) part_stays ∙ passed.2,
             )
 
+      module _ (m : Moved) (came : Ok m ≡ tried f serial xs s code) where
         pub loop_goes : (ys : List ℕ) (so : Level) (level : ℕ)
             → ys ≡ written m.note xs → so ≡ so_level m.state → level ≡ level_number so
             → course serial (record { refusal = None; count = i + 1; note = m.note; state = m.state; array = ys; levels = set levels i level }) (drop (i + 1) codes)
@@ -153,14 +158,16 @@ module _ (serial : List ℕ) where
     abbrev start : Course
     start = set_all_out None s xs (level ∷ levels)
 
-    -- a course's answer is its last event's
+    -- a course's answer is its last event's, and so is its note, refused or not
     abbrev Tells : Answer → Course → Type 0
-    Tells a c = (answer_of c.state (unless_refused c.refusal (Ok (record { state = c.state; note = c.note }))) ≡ a) × (c.array ≡ written a.note xs)
+    Tells a c =
+        (answer_of c.state (unless_refused c.refusal (Ok (record { state = c.state; note = c.note }))) ≡ a)
+        × (c.array ≡ written a.note xs) × (c.note ≡ a.note)
 
     turned : (t : Result Moved Refusal) → Tells (answer_of s t) (turn start (answer_of s t))
     unfolding written
-    turned (Ok m) = (refl, refl)
-    turned (Err why) = (refl, refl)
+    turned (Ok m) = (refl, refl, refl)
+    turned (Err why) = (refl, refl, refl)
 
     -- what the loop leaves is the event's answer
     pub single : {c : Course} → c ≡ course serial start (code ∷ []) → Tells (event serial xs s code) c

@@ -21,8 +21,8 @@ loop-i-preserved c =
     let came = sym c.in-Ok.is ∙ c.attempt.ensures in (
       search rules,
       search rules,
-      row_stays a.serial.now at.array at.state at.levels a.codes.now at.note at.i more _ row c.in-Ok.moved came,
-      lend_stays a.serial.now at.array at.state at.levels a.codes.now at.note at.i more _ row c.in-Ok.moved came
+      row_stays a.serial.now at.array at.state at.levels a.codes.now at.note at.i more _ row came,
+      lend_stays a.serial.now at.array at.state at.levels a.codes.now at.note at.i more _ row came
           c.store.ensures at.invariant.3,
       loop_goes _ at.array at.state at.levels _ at.note at.i more _ row c.in-Ok.moved came _ _ _
           c.store.ensures c.so.ensures c.from-in-Ok.ensures
