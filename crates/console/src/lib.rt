@@ -1,6 +1,8 @@
 // What a program reads and writes: standard input, output and error. A write that fails is not told, since nobody is left to tell.
 #![tactic(auto)]
 
+ghost use Rattle.std.specs.Prelude.{◌<◌, SomeIff};
+ghost use Rattle.std.specs.Char.{digit_value};
 ghost use Rattle.io.specs.Counts.{IsPrefixLen};
 
 const STDIN: i32 = 0;
@@ -37,8 +39,10 @@ pub fn say_hex(word: &[u8], n: u64) {
     io::print_hex(STDOUT, n, 2);
 }
 
-// The value of a hex digit.
-pub fn digit(c: u8) -> Option<u8> {
+// The value of a hex digit, capital or small; none of any other byte.
+pub fn digit(c: u8) -> Option<u8>
+    ensures { SomeIff result (digit_value c < 16) (digit_value c) }
+{
     match c {
         b'0'..=b'9' => Some(c - b'0'),
         b'A'..=b'F' => Some(c - b'A' + 10),
