@@ -1,6 +1,6 @@
 // The pins' edges, each a method that hands back the next state with the note. The edges of /CS and SCK build what they
 // hand back in place, and not by `silent`: time it before you change that (docs/SPEED.md).
-ghost use Rattle.std.specs.Prelude.{◌≡◌};
+ghost use Rattle.std.specs.Prelude.{true, false, ◌≡◌};
 ghost use Rattle.pins.specs.Edges.{silent, cs_fall, cs_rise, sck_rise, sck_fall, si_to, hold_fall, hold_rise, wp_to, vdd_fall, vdd_rise};
 
 use crate::hold::{Hold, hold_high};
@@ -171,6 +171,18 @@ impl State {
         state.silent()
     }
 
+    pub fn si_rise(self) -> Moved
+        ensures { result ≡ si_to self true }
+    {
+        self.si_to(true)
+    }
+
+    pub fn si_fall(self) -> Moved
+        ensures { result ≡ si_to self false }
+    {
+        self.si_to(false)
+    }
+
     // From here on moves of SCK and /CS are not seen.
     #[tactic(auto, unfolding(crate::specs::Edges::hold_fall))]
     pub fn hold_fall(self) -> Moved
@@ -205,6 +217,18 @@ impl State {
             ..self
         };
         state.silent()
+    }
+
+    pub fn wp_rise(self) -> Moved
+        ensures { result ≡ wp_to self true }
+    {
+        self.wp_to(true)
+    }
+
+    pub fn wp_fall(self) -> Moved
+        ensures { result ≡ wp_to self false }
+    {
+        self.wp_to(false)
     }
 
     // Power is cut.
