@@ -27,12 +27,14 @@ lead_of t = cond (eqb t.refusal 0) (led t.value t.place) (stopped (refusal_at t.
 unfoldable pub leading : List ℕ → ℕ → Result Lead Refused
 leading s at = lead_of (reading s at)
 
+-- where the second number is refused, the part's number is told too, and the place where its reading stopped
 abbrev pub both : Lead → Result Lead Refused → Result Head NoHead
 both part (Ok kept) = Ok (record { part = part.value; kept = kept.value; items = kept.next })
-both part (Err why) = Err (record { refusal = why.refusal; part = part.value; items = why.at })
+both part (Err why) = Err (record { refusal = why.refusal; part = part.value; at = why.at })
 
+-- where the part's number is refused, nothing else
 abbrev pub no_part : Refused → NoHead
-no_part why = record { refusal = why.refusal; part = 0; items = 0 }
+no_part why = record { refusal = why.refusal; part = 0; at = 0 }
 
 abbrev pub first_of : List ℕ → Result Lead Refused → Result Head NoHead
 first_of s (Ok part) = both part (leading s part.next)

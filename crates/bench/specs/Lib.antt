@@ -3,3 +3,4 @@ pub mod Run
 pub mod Report
 pub mod Outcomes
 pub mod Examples
+pub mod HeadExamples

@@ -28,7 +28,7 @@ pub struct Head {
 pub struct NoHead {
     pub refusal: Refusal,
     pub part: u64,
-    pub items: usize,
+    pub at: usize,
 }
 
 // The part's number itself is refused: nothing else is told.
@@ -39,7 +39,7 @@ impl From<Refused> for NoHead {
         NoHead {
             refusal: refused.refusal,
             part: 0,
-            items: 0,
+            at: 0,
         }
     }
 }
@@ -81,7 +81,7 @@ pub fn head_of(trace: &[u8]) -> Result<Head, NoHead>
         Err(refused) => Err(NoHead {
             refusal: refused.refusal,
             part: part.value,
-            items: refused.at,
+            at: refused.at,
         }),
     }
 }

@@ -160,7 +160,7 @@ impl State {
         }
     }
 
-    // SI has a level and no more.
+    // SI has a level and no more. The step takes the level: an arm for each of its edges is slower (docs/SPEED.md).
     pub fn si_to(self, level: bool) -> Moved
         ensures { result ≡ si_to self level }
     {
@@ -208,7 +208,7 @@ impl State {
         state.silent()
     }
 
-    // /WP has a level and no more.
+    // /WP has a level and no more, as SI.
     pub fn wp_to(self, level: bool) -> Moved
         ensures { result ≡ wp_to self level }
     {
